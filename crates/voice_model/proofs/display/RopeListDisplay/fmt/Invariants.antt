@@ -1,0 +1,9 @@
+use Rattle.std.proofs.Common.{take}
+use Rattle.std.specs.Prelude.{map}
+use Rattle.std.specs.Fmt.{HasWritten, IsPlainFormatter, decimal}
+use Rattle.voice_model.specs.Text.{spaced}
+use Rattle.voice_model.proofs.display.RopeListDisplay.fmt.Given as goal
+
+abbrev pub invariant-loop-id : goal.invariant-loop-id
+invariant-loop-id g l =
+    IsPlainFormatter l.initial.f → HasWritten g.W.Write.write_str_gives l.initial.f (spaced (map decimal (take l.id-index l.id-items))) l.f

@@ -1,0 +1,5 @@
+pub mod WindowRows
+pub mod PiecesOfRopes
+pub mod Windows
+pub mod Distinct
+pub mod Counts
