@@ -1,0 +1,4 @@
+pub mod FileNames
+pub mod Script
+pub mod Samples
+pub mod Errors

@@ -1,0 +1,13 @@
+use Rattle.std.proofs.Common.{◌≡◌, take}
+use Rattle.voice_store.specs.Recording.{opened, Legal, after}
+use Rattle.voice_main.specs.Ran.{Follows}
+use Rattle.voice_main.proofs.script_lines.run_lines.Given as goal
+
+abbrev pub invariant-loop-i : goal.invariant-loop-i
+invariant-loop-i g l = record {
+  tapes : l.store.tapes ≡ l.tapes;
+  legal : Legal opened l.tapes l.store.history;
+  state : l.store.state ≡ after opened l.tapes l.store.history;
+  disk : l.store.disk ≡ l.fn.store.disk;
+  follows : Follows l.samples l.tapes (take l.i l.lines) l.store.history;
+}

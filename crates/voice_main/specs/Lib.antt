@@ -1,0 +1,3 @@
+pub mod Words
+pub mod Load
+pub mod Ran

@@ -1,0 +1,15 @@
+//! The top call of the voice manager: `run` does what the words of the command line say, over a shelf of files, a sink of text and a disk.
+#![tactic(auto)]
+
+mod load;
+mod output;
+mod script_lines;
+mod status;
+mod top_call;
+mod words;
+
+pub use status::Status;
+pub use top_call::{Ended, run};
+
+#[cfg(test)]
+mod tests;

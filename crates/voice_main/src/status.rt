@@ -1,0 +1,42 @@
+//! How a run ended.
+
+use thiserror::Error;
+use voice_units::Name;
+
+/// How a run ended. It is shown as the line that the program prints on standard error.
+#[derive(Clone, Copy, Debug, PartialEq, Eq, Error)]
+pub enum Status {
+    /// The script was read to its end, and every line was done.
+    #[error("voice: done")]
+    Done,
+    /// The words are in no form that the program knows.
+    #[error("voice: usage: voice format|run|make")]
+    Usage,
+    /// That line, counted from 1, is the script's first bad one.
+    #[error("voice: line {0} of the script is refused")]
+    BadScript(u32),
+    /// The script or a sample file is absent: the first one.
+    #[error("voice: no file {0}")]
+    NoFile(Name),
+    #[error("voice: the folder failed")]
+    ShelfFault,
+    #[error("voice: the output failed")]
+    SinkFault,
+    #[error("voice: no memory")]
+    NoMemory,
+}
+
+impl Status {
+    /// The exit status of the program.
+    pub fn code(&self) -> u8 {
+        match self {
+            Status::Done => 0,
+            Status::Usage => 2,
+            Status::BadScript(_) => 3,
+            Status::NoFile(_) => 4,
+            Status::ShelfFault => 5,
+            Status::SinkFault => 6,
+            Status::NoMemory => 9,
+        }
+    }
+}

@@ -1,0 +1,108 @@
+//! The rows of a first script, and each fault of the outside once.
+
+use crate::{Status, run};
+use std::alloc::Global;
+use std::sync::Wait;
+use std::test::Fail;
+use std::thread::Threads;
+use voice_outside::{MemShelf, MemSink, NoDisk, OpenGate};
+use voice_units::Name;
+
+// Runs the words over these files, and gives the status and what was printed. The listed calls of the shelf and the sink fail.
+fn shown<R: Threads + Wait + Sync>(
+    rt: &R,
+    alloc: Global,
+    words: &[&str],
+    files: &[(&str, &str)],
+    shelf_fails: &[u64],
+    sink_fails: &[u64],
+) -> Result<(Status, Vec<u8>), Fail> {
+    let mut all = Vec::new(alloc);
+    for word in words {
+        all.push(String::from_str(alloc, word)?)?;
+    }
+    let mut held = Vec::new(alloc);
+    for (name, bytes) in files {
+        let name = Name::new(name.as_bytes())?;
+        held.push((name, bytes.as_bytes().to_vec(alloc)?))?;
+    }
+    let mut shelf = MemShelf::new(alloc, held, shelf_fails.to_vec(alloc)?);
+    let mut sink = MemSink::new(alloc, sink_fails.to_vec(alloc)?);
+    let ended = run(
+        rt,
+        alloc,
+        &all,
+        &mut shelf,
+        &mut sink,
+        NoDisk::new(),
+        &OpenGate,
+    );
+    Ok((ended.status, sink.bytes().to_vec(alloc)?))
+}
+
+#[test]
+fn scripts_print_their_replies(rt: HostRuntime) -> Result<(), Fail> {
+    let f20 = ("f20", "ABCDEFGHIJKLMNOPQRST");
+    let absent = Status::NoFile(Name::new(b"gone")?);
+    let cases = [
+        (["run", "s"].as_slice(), "", Status::Done, ""),
+        (
+            ["run", "s"].as_slice(),
+            "1 record f20",
+            Status::Done,
+            "1 1 record: rope 1 length 20\n",
+        ),
+        (
+            ["run", "s"].as_slice(),
+            "1 record f20\n16 record f20\n",
+            Status::Done,
+            "1 1 record: rope 1 length 20\n2 16 record: rope 2 length 20\n",
+        ),
+        ([].as_slice(), "", Status::Usage, ""),
+        (["run"].as_slice(), "", Status::Usage, ""),
+        (["run", "a", "b"].as_slice(), "", Status::Usage, ""),
+        (["run", "-x"].as_slice(), "", Status::Usage, ""),
+        (["run", "gone"].as_slice(), "", absent, ""),
+        (
+            ["run", "s"].as_slice(),
+            "1 sing a",
+            Status::BadScript(1),
+            "",
+        ),
+        (
+            ["run", "s"].as_slice(),
+            "1 record f20\n17 record f20\n",
+            Status::BadScript(2),
+            "",
+        ),
+        (
+            ["run", "s"].as_slice(),
+            "1 record f20\n\n",
+            Status::BadScript(2),
+            "",
+        ),
+        (
+            ["run", "s"].as_slice(),
+            "1 record f20\n2 record gone\n",
+            absent,
+            "",
+        ),
+    ];
+    for (words, script, status, text) in cases {
+        let (ended, printed) = shown(&rt, rt.alloc(), words, &[("s", script), f20], &[], &[])?;
+        assert_eq!(rt; ended, status, "{script}");
+        assert_eq!(rt; printed.as_slice(), text.as_bytes(), "{script}");
+    }
+    Ok(())
+}
+
+#[test]
+fn faults_are_told(rt: HostRuntime) -> Result<(), Fail> {
+    let files = [("s", "1 record f20"), ("f20", "ABC")];
+    let (ended, _) = shown(&rt, rt.alloc(), &["run", "s"], &files, &[2], &[])?;
+    assert_eq!(rt; ended, Status::ShelfFault);
+    let (ended, printed) = shown(&rt, rt.alloc(), &["run", "s"], &files, &[], &[1])?;
+    assert_eq!(rt; ended, Status::SinkFault);
+    assert_eq!(rt; printed.len(), 0);
+    Ok(())
+}

@@ -1,0 +1,76 @@
+#!/bin/sh
+# The first path: one recording, from the words of the command line to the printed text.
+set -eu
+. "$(dirname "$0")/lib.sh"
+
+usage='voice: usage: voice format|run|make
+'
+cp "$top/examples/hello.ul" "$work/hello.ul"
+cp "$top/examples/first.vs" "$work/first.vs"
+: >"$work/empty.vs"
+printf '1 sing a' >"$work/sing.vs"
+printf '1 record hello.ul\n17 record hello.ul\n' >"$work/second.vs"
+printf '1 record hello.ul\n2 record gone.ul\n' >"$work/lost.vs"
+printf '16 record hello.ul\n2 record hello.ul\n' >"$work/two.vs"
+printf '1 record -x\n' >"$work/dash.vs"
+
+check 'the first script' 0 '1 1 record: rope 1 length 20
+' '' run first.vs
+check 'two callers' 0 '1 16 record: rope 1 length 20
+2 2 record: rope 2 length 20
+' '' run two.vs
+check 'an empty script' 0 '' '' run empty.vs
+
+check 'no word' 2 '' "$usage"
+check 'no script' 2 '' "$usage" run
+check 'two scripts' 2 '' "$usage" run a b
+check 'an option' 2 '' "$usage" run -x
+check 'an unknown word' 2 '' "$usage" runs first.vs
+check 'an empty name' 2 '' "$usage" run ''
+check 'a word that is not UTF-8' 2 '' "$usage" run "$(printf 'first\377.vs')"
+check 'a long word' 2 '' "$usage" run "$(printf '%05000d' 0)"
+check 'help with another word' 2 '' "$usage" --help run
+
+check 'a missing script' 4 '' 'voice: no file gone
+' run gone
+check 'a missing sample file' 4 '' 'voice: no file gone.ul
+' run lost.vs
+check 'an unknown verb' 3 '' 'voice: line 1 of the script is refused
+' run sing.vs
+check 'caller 17' 3 '' 'voice: line 2 of the script is refused
+' run second.vs
+check 'a bad file name' 3 '' 'voice: line 1 of the script is refused
+' run dash.vs
+
+# A script of 65,535 lines runs; one more line is refused.
+awk 'BEGIN { for (i = 0; i < 65535; i++) print "1 record empty.vs" }' >"$work/long.vs"
+(cat "$work/long.vs" && echo '1 record empty.vs') >"$work/longer.vs"
+expect '65,535 lines' sh -c "cd '$work' && [ \"\$('$top/voice' run long.vs | tail -n 1)\" = '65535 1 record: rope 65535 length 0' ]"
+check '65,536 lines' 3 '' 'voice: line 65536 of the script is refused
+' run longer.vs
+
+# A full standard output, and one that is closed by its reader.
+status=0
+(cd "$work" && "$top/voice" run first.vs) >/dev/full 2>"$work/.err" || status=$?
+expect 'a full output' [ "$status" = 6 ]
+expect 'a full output is told' [ "$(cat "$work/.err")" = 'voice: the output failed' ]
+status=0
+(cd "$work" && "$top/voice" --help) >/dev/full 2>"$work/.err" || status=$?
+expect 'a full output at --help' [ "$status" = 6 ]
+
+# A sample file that can't be read.
+mkdir "$work/folder.ul"
+printf '1 record folder.ul\n' >"$work/folder.vs"
+check 'a folder in place of a file' 5 '' 'voice: the folder failed
+' run folder.vs
+
+# Nothing but the printed text is written.
+before=$(ls -A "$work" | grep -v '^\.' | sort)
+(cd "$work" && "$top/voice" run first.vs >/dev/null)
+expect 'no file is made' [ "$before" = "$(ls -A "$work" | grep -v '^\.' | sort)" ]
+
+expect 'help' sh -c "'$top/voice' --help | grep -q '^  voice run NAME'"
+expect 'help is a screenful' [ "$("$top/voice" --help | wc -l)" -le 24 ]
+expect 'version' [ "$("$top/voice" --version)" = "voice 0.1.0 ($(rt version))" ]
+expect 'the example' [ "$(cd "$top/examples" && ../voice run first.vs)" = '1 1 record: rope 1 length 20' ]
+finish
