@@ -19,6 +19,9 @@ check 'the first script' 0 '1 1 record: rope 1 length 20
 check 'two callers' 0 '1 16 record: rope 1 length 20
 2 2 record: rope 2 length 20
 ' '' run two.vs
+printf '# a comment \377\n\n  1 a =\trecord hello.ul\r\n' >"$work/loose.vs"
+check 'a comment, blanks and a variable' 0 '1 1 record: rope 1 length 20
+' '' run loose.vs
 check 'an empty script' 0 '' '' run empty.vs
 
 check 'no word' 2 '' "$usage"

@@ -1,133 +1,194 @@
--- Reading a line against its spelling.
-use Rattle.std.proofs.Common.{◌≡◌, ℕ, ◌+◌, ◌-◌, ◌/◌, ◌%◌, ◌<◌, ◌≤◌, ◌⊎◌, inl, inr, Bool, true, false, cond, eqb, leb, List, [], ◌∷◌, ◌++◌, get_or, take, drop, sym, refl, ap, ◌∙◌, arith, Some, None, Option, ◌&&◌, append_assoc, map, subst, take-append-drop, option_and_then}
-use Rattle.std.proofs.lemmas.Bool.{cases_lt}
-use Rattle.std.proofs.lemmas.List.{map-append}
-use Rattle.std.specs.Prelude.{codes}
+-- Reading a word against its spelling.
+use Rattle.std.proofs.Common.{◌≡◌, ℕ, ◌^◌, ◌<◌, ◌≤◌, ◌⊎◌, inl, inr, Bool, true, false, cond, ◌&&◌, List, [], ◌∷◌, get_or, map, sym, refl, ap, ◌∙◌, arith, Option, Some, None, lit<, subst}
+use Rattle.std.specs.Prelude.{option_and_then, option_map, IsTrue, codes}
 use Rattle.std.specs.Fmt.{decimal}
 use Rattle.std.specs.Str.{bytes_eq}
-use Rattle.std.proofs.lemmas.Fmt.{decimal_digit, decimal_step}
 use Rattle.std.proofs.lemmas.Bool.Decides.{nat_tests}
 use Rattle.std.proofs.lemmas.Slice.Eq.{bytes_eq-Decides}
-use Rattle.script_lang.specs.declared.lines.Line.{Line}
-use Rattle.script_lang.specs.FileNames.{is_file}
-use Rattle.script_lang.specs.Script.{caller_at, line_at, line_behind, spelling, lines_of, IsLine}
+use Rattle.voice_model.specs.declared.calls.Class.{Class}
+use Rattle.voice_model.specs.declared.calls.Class.TheVariants as classes
+use Rattle.script_lang.specs.declared.scripts.RopeArg.{RopeArg}
+use Rattle.script_lang.specs.declared.scripts.RopeArg.TheVariants as ropes
+use Rattle.script_lang.specs.Numbers.{number_at_most}
+use Rattle.script_lang.specs.Forms.{is_var, is_file, is_key, is_letter, is_short, is_word_byte, class_of}
+use Rattle.std.specs.List.{list_all}
+use Rattle.script_lang.specs.Arguments.{Rest, next, rope_of, rope_at, number_at, file_of, file_at, key_of, key_at, class_at, ropes_of, keys_of}
+use Rattle.script_lang.specs.Grammar.{rope_text, IsRope, class_text, Every}
+use Rattle.script_lang.proofs.Digits.{number-again, number-found, decimal_first}
 
--- a caller's number has one digit, or two of which the first is 1
-two_digits : (c : ℕ) → 10 ≤ c → c ≤ 16 → decimal c ≡ 49 ∷ (38 + c) ∷ []
-two_digits c low high =
-    let tens : c / 10 ≡ 1 = omega arith in
-    let ones : 48 + c % 10 ≡ 38 + c = omega arith in
-    decimal_step c low (omega arith) ∙ ap (λ t. decimal t ++ (48 + c % 10) ∷ []) tens ∙ ap (λ ds. ds ++ (48 + c % 10) ∷ []) (decimal_digit 1 (omega arith)) ∙ ap (λ d. 49 ∷ d ∷ []) ones
+pub bind_ok : {A B : Type 0} (o : Option A) (f : A → Option B) (y : B) → option_and_then f o ≡ Some y → (x : A) × (o ≡ Some x) × (f x ≡ Some y)
+bind_ok None f y e = cc
+bind_ok (Some x) f y e = (x, refl, e)
 
--- what caller_at gives of one digit and of two
-one : (c : ℕ) (more : List ℕ) → 1 ≤ c → c < 10 → caller_at ((48 + c) ∷ 32 ∷ more) ≡ Some (c, 32 ∷ more)
-one c more low high = grind (arith, nat_tests)
+pub some_is : {A : Type 0} (x y : A) → Some x ≡ Some y → x ≡ y
+some_is x y e = cc
 
-two : (c : ℕ) (more : List ℕ) → 10 ≤ c → c ≤ 16 → caller_at (49 ∷ (38 + c) ∷ 32 ∷ more) ≡ Some (c, 32 ∷ more)
-two c more low high = grind (arith, nat_tests)
+-- a reader of one word
+abbrev pub one_word : {X : Type 0} → (List ℕ → Option X) → Rest → Option (X × Rest)
+one_word of words = option_and_then (λ w. option_and_then (λ x. Some (x, w.1)) (of w.0)) (next words)
 
-caller_at-spelled : (c : ℕ) (more : List ℕ) → 1 ≤ c → c ≤ 16 → caller_at (decimal c ++ 32 ∷ more) ≡ Some (c, 32 ∷ more)
-caller_at-spelled c more low high =
-    elim (cases_lt c 10) [
-      | inl small ↦ ap (λ d. caller_at (d ++ 32 ∷ more)) (decimal_digit c small) ∙ one c more low small
-      | inr big ↦ ap (λ d. caller_at (d ++ 32 ∷ more)) (two_digits c big high) ∙ two c more big high
+pub word_found : {X : Type 0} (of : List ℕ → Option X) (words rest : Rest) (x : X) → one_word of words ≡ Some (x, rest) → (w : List ℕ) × (words ≡ w ∷ rest) × (of w ≡ Some x)
+word_found of [] rest x e = cc
+word_found of (w ∷ ws) rest x e =
+    let b = bind_ok (of w) (λ y. Some (y, ws)) (x, rest) e in
+    let p = some_is (b.0, ws) (x, rest) b.2 in
+    (w, ap (λ q. w ∷ q.1) p, b.1 ∙ ap (λ q. Some (q.0)) p)
+
+pub word_again : {X : Type 0} (of : List ℕ → Option X) (w : List ℕ) (rest : Rest) (x : X) → of w ≡ Some x → one_word of (w ∷ rest) ≡ Some (x, rest)
+word_again of w rest x e = ap (option_and_then (λ y. Some (y, rest))) e
+
+tested : {X : Type 0} (t : Bool) (x y : X) → cond t (Some x) None ≡ Some y → (t ≡ true) × (x ≡ y)
+tested true x y e = (refl, cc)
+tested false x y e = cc
+
+-- numbers
+pub number_found : (most n : ℕ) (words rest : Rest) → most < 10 ^ 15 → number_at most words ≡ Some (n, rest) → (words ≡ decimal n ∷ rest) × (n ≤ most)
+unfolding number_at
+number_found most n words rest few e =
+    let w = word_found (number_at_most most) words rest n e in
+    let p = number-found most n w.0 few w.2 in
+    (w.1 ∙ ap (λ t. t ∷ rest) p.0, p.1)
+
+pub number_again : (most n : ℕ) (rest : Rest) → most < 10 ^ 15 → n ≤ most → number_at most (decimal n ∷ rest) ≡ Some (n, rest)
+unfolding number_at
+number_again most n rest few h = word_again (number_at_most most) (decimal n) rest n (number-again most n few h)
+
+-- files and keys
+file_of_found : (w x : List ℕ) → file_of w ≡ Some x → (w ≡ x) × IsTrue (is_file x)
+unfolding file_of
+file_of_found w x e = let t = tested (is_file w) w x e in (t.1, ap is_file (sym t.1) ∙ t.0)
+
+pub file_found : (words rest : Rest) (x : List ℕ) → file_at words ≡ Some (x, rest) → (words ≡ x ∷ rest) × IsTrue (is_file x)
+unfolding file_at
+file_found words rest x e =
+    let w = word_found file_of words rest x e in
+    let p = file_of_found w.0 x w.2 in
+    (w.1 ∙ ap (λ t. t ∷ rest) p.0, p.1)
+
+pub file_again : (x : List ℕ) (rest : Rest) → IsTrue (is_file x) → file_at (x ∷ rest) ≡ Some (x, rest)
+unfolding file_at file_of
+file_again x rest h = word_again file_of x rest x (ap (λ t. cond t (Some x) None) h)
+
+key_of_found : (w x : List ℕ) → key_of w ≡ Some x → (w ≡ x) × IsTrue (is_key x)
+unfolding key_of
+key_of_found w x e = let t = tested (is_key w) w x e in (t.1, ap is_key (sym t.1) ∙ t.0)
+
+key_of_again : (x : List ℕ) → IsTrue (is_key x) → key_of x ≡ Some x
+unfolding key_of
+key_of_again x h = ap (λ t. cond t (Some x) None) h
+
+pub key_found : (words rest : Rest) (x : List ℕ) → key_at words ≡ Some (x, rest) → (words ≡ x ∷ rest) × IsTrue (is_key x)
+unfolding key_at
+key_found words rest x e =
+    let w = word_found key_of words rest x e in
+    let p = key_of_found w.0 x w.2 in
+    (w.1 ∙ ap (λ t. t ∷ rest) p.0, p.1)
+
+pub key_again : (x : List ℕ) (rest : Rest) → IsTrue (is_key x) → key_at (x ∷ rest) ≡ Some (x, rest)
+unfolding key_at
+key_again x rest h = word_again key_of x rest x (key_of_again x h)
+
+-- ropes
+either : (t : Bool) (w : List ℕ) (o : Option ℕ) (r : RopeArg) → cond t (Some (ropes.Var w)) (option_map ropes.Id o) ≡ Some r →
+    ((t ≡ true) × (ropes.Var w ≡ r)) ⊎ ((n : ℕ) × (o ≡ Some n) × (ropes.Id n ≡ r))
+either true w o r e = inl (refl, cc)
+either false w None r e = cc
+either false w (Some n) r e = inr (n, refl, cc)
+
+rope_of_found : (w : List ℕ) (r : RopeArg) → rope_of w ≡ Some r → (w ≡ rope_text r) × IsRope r
+unfolding rope_of
+rope_of_found w r e =
+    elim (either (is_var w) w (number_at_most (2 ^ 48) w) r e) [
+      | inl v ↦ (ap rope_text v.1, subst IsRope v.1 v.0)
+      | inr v ↦ let p = number-found (2 ^ 48) v.0 w (lit< tt) v.1 in (p.0 ∙ ap rope_text v.2, subst IsRope v.2 p.1)
     ]
 
--- which of two tests passed
-chosen : {X : Type 0} (s t : Bool) (x y z : X) → cond s (Some x) (cond t (Some y) None) ≡ Some z → ((s ≡ true) × (x ≡ z)) ⊎ ((t ≡ true) × (y ≡ z))
-chosen true t x y z e = inl (refl, cc)
-chosen false true x y z e = inr (refl, cc)
-chosen false false x y z e = cc
+digit_no_letter : (c : ℕ) → 48 ≤ c → c ≤ 57 → is_letter c ≡ false
+digit_no_letter c low high = grind (arith, nat_tests)
 
-front_one : (bytes : List ℕ) → 0 < get_or bytes 0 0 → bytes ≡ get_or bytes 0 0 ∷ drop 1 bytes
-front_one [] some = absurd (omega arith)
-front_one (a ∷ bytes) some = refl
+last_false : (a b c : Bool) → b ≡ false → (a && b && c) ≡ false
+last_false true true c e = cc
+last_false true false c e = refl
+last_false false b c e = refl
 
-front_two : (bytes : List ℕ) → 0 < get_or bytes 1 0 → bytes ≡ get_or bytes 0 0 ∷ get_or bytes 1 0 ∷ drop 2 bytes
-front_two [] some = absurd (omega arith)
-front_two (a ∷ []) some = absurd (omega arith)
-front_two (a ∷ b ∷ bytes) some = refl
+rope_of_again : (r : RopeArg) → IsRope r → rope_of (rope_text r) ≡ Some r
+unfolding rope_of
+rope_of_again (ropes.Id n) h =
+    let f = decimal_first n (omega arith) in
+    let no : is_var (decimal n) ≡ false = last_false (is_short (decimal n)) (is_letter (get_or (decimal n) 0 0)) (list_all is_word_byte (decimal n)) (digit_no_letter (get_or (decimal n) 0 0) f.0 f.1) in
+    ap (λ t. cond t (Some (ropes.Var (decimal n))) (option_map ropes.Id (number_at_most (2 ^ 48) (decimal n)))) no
+    ∙ ap (option_map ropes.Id) (number-again (2 ^ 48) n (lit< tt) h)
+rope_of_again (ropes.Var name) h = ap (λ t. cond t (Some (ropes.Var name)) (option_map ropes.Id (number_at_most (2 ^ 48) name))) h
 
-in_two : (first second : ℕ) → (eqb first 49 && leb 48 second && leb second 54) ≡ true → (first ≡ 49) × (48 ≤ second) × (second ≤ 54)
-in_two first second e = (grind (arith, nat_tests), grind (arith, nat_tests), grind (arith, nat_tests))
+pub rope_found : (words rest : Rest) (r : RopeArg) → rope_at words ≡ Some (r, rest) → (words ≡ rope_text r ∷ rest) × IsRope r
+unfolding rope_at
+rope_found words rest r e =
+    let w = word_found rope_of words rest r e in
+    let p = rope_of_found w.0 r w.2 in
+    (w.1 ∙ ap (λ t. t ∷ rest) p.0, p.1)
 
-in_one : (first : ℕ) → (leb 49 first && leb first 57) ≡ true → (49 ≤ first) × (first ≤ 57)
-in_one first e = (grind (arith, nat_tests), grind (arith, nat_tests))
+pub rope_again : (r : RopeArg) (rest : Rest) → IsRope r → rope_at (rope_text r ∷ rest) ≡ Some (r, rest)
+unfolding rope_at
+rope_again r rest h = word_again rope_of (rope_text r) rest r (rope_of_again r h)
 
-caller_at-Some : (bytes : List ℕ) (c : ℕ) (rest : List ℕ) → caller_at bytes ≡ Some (c, rest) → (1 ≤ c) × (c ≤ 16) × (bytes ≡ decimal c ++ rest)
-caller_at-Some bytes c rest e =
-    let first = get_or bytes 0 0 in
-    let second = get_or bytes 1 0 in
-    elim (chosen (eqb first 49 && leb 48 second && leb second 54) (leb 49 first && leb first 57) (second - 38, drop 2 bytes) (first - 48, drop 1 bytes) (c, rest) e) [
-      | inl w ↦
-          let t = in_two first second w.0 in
-          let is : second - 38 ≡ c = ap (λ p. p.0) w.1 in
-          let tail : drop 2 bytes ≡ rest = ap (λ p. p.1) w.1 in
-          let two : second ≡ 38 + c = omega arith in (
-            omega arith,
-            omega arith,
-            front_two bytes (omega arith) ∙ ap (λ f. f ∷ second ∷ drop 2 bytes) t.0 ∙ ap (λ b. 49 ∷ b ∷ drop 2 bytes) two ∙ ap (λ r. 49 ∷ (38 + c) ∷ r) tail
-                ∙ sym (ap (λ d. d ++ rest) (two_digits c (omega arith) (omega arith))),
-          )
-      | inr w ↦
-          let t = in_one first w.0 in
-          let is : first - 48 ≡ c = ap (λ p. p.0) w.1 in
-          let tail : drop 1 bytes ≡ rest = ap (λ p. p.1) w.1 in
-          let one : first ≡ 48 + c = omega arith in (
-            omega arith,
-            omega arith,
-            front_one bytes (omega arith) ∙ ap (λ f. f ∷ drop 1 bytes) one ∙ ap (λ r. (48 + c) ∷ r) tail
-                ∙ sym (ap (λ d. d ++ rest) (decimal_digit c (omega arith))),
-          )
-    ]
+-- classes
+class_cases : (a b c : Bool) (w : List ℕ) (k : Class) → (a ≡ true → w ≡ codes "held") → (b ≡ true → w ≡ codes "until") → (c ≡ true → w ≡ codes "listed") →
+    cond a (Some classes.Held) (cond b (Some classes.Until) (cond c (Some classes.Listed) None)) ≡ Some k → w ≡ class_text k
+class_cases true b c w k p q r e = p refl ∙ ap class_text (some_is classes.Held k e)
+class_cases false true c w k p q r e = q refl ∙ ap class_text (some_is classes.Until k e)
+class_cases false false true w k p q r e = r refl ∙ ap class_text (some_is classes.Listed k e)
+class_cases false false false w k p q r e = cc
 
--- a line in the form is read
-pub line_at-spelled : (l : Line) → IsLine l → line_at (spelling l) ≡ Some l
-line_at-spelled l h =
-    ap line_at (append_assoc (decimal l.caller) (codes " record ") l.file)
-    ∙ ap (option_and_then line_behind) (caller_at-spelled l.caller (114 ∷ 101 ∷ 99 ∷ 111 ∷ 114 ∷ 100 ∷ 32 ∷ l.file) h.least h.most)
-    ∙ ap (λ b. cond b (Some l) None) h.file
+class_of_found : (w : List ℕ) (k : Class) → class_of w ≡ Some k → w ≡ class_text k
+unfolding class_of
+class_of_found w k e = class_cases (bytes_eq w (codes "held")) (bytes_eq w (codes "until")) (bytes_eq w (codes "listed")) w k
+    (λ t. (bytes_eq-Decides w (codes "held")).0 t) (λ t. (bytes_eq-Decides w (codes "until")).0 t) (λ t. (bytes_eq-Decides w (codes "listed")).0 t) e
 
-both : (a b : Bool) → (a && b) ≡ true → (a ≡ true) × (b ≡ true)
-both true b e = (refl, e)
-both false b e = cc
+pub class_again : (k : Class) (rest : Rest) → class_at (class_text k ∷ rest) ≡ Some (k, rest)
+unfolding class_at class_of
+class_again classes.Held rest = refl
+class_again classes.Until rest = refl
+class_again classes.Listed rest = refl
 
-some_then : (o : Option (ℕ × List ℕ)) (l : Line) → option_and_then line_behind o ≡ Some l → (r : ℕ × List ℕ) × (o ≡ Some r) × (line_behind r ≡ Some l)
-some_then None l e = cc
-some_then (Some r) l e = (r, refl, e)
+pub class_found : (words rest : Rest) (k : Class) → class_at words ≡ Some (k, rest) → words ≡ class_text k ∷ rest
+unfolding class_at
+class_found words rest k e = let w = word_found class_of words rest k e in w.1 ∙ ap (λ t. t ∷ rest) (class_of_found w.0 k w.2)
 
-chosen_one : {X : Type 0} (t : Bool) (x y : X) → cond t (Some x) None ≡ Some y → (t ≡ true) × (x ≡ y)
-chosen_one true x y e = (refl, cc)
-chosen_one false x y e = cc
+-- lists
+map_ok : {A B : Type 0} (o : Option A) (f : A → B) (y : B) → option_map f o ≡ Some y → (x : A) × (o ≡ Some x) × (f x ≡ y)
+map_ok None f y e = cc
+map_ok (Some x) f y e = (x, refl, some_is (f x) y e)
 
-spelled_behind : (r : ℕ × List ℕ) (l : Line) (bytes : List ℕ) → 1 ≤ r.0 → r.0 ≤ 16 → bytes ≡ decimal r.0 ++ r.1 → line_behind r ≡ Some l → IsLine l × (bytes ≡ spelling l)
-spelled_behind r l bytes least most is e =
-    let read : Line = record { caller = r.0; file = drop 8 r.1 } in
-    let t = chosen_one (bytes_eq (take 8 r.1) (codes " record ") && is_file (drop 8 r.1)) read l e in
-    let b = both (bytes_eq (take 8 r.1) (codes " record ")) (is_file (drop 8 r.1)) t.0 in
-    let verb : take 8 r.1 ≡ codes " record " = (bytes_eq-Decides (take 8 r.1) (codes " record ")).0 b.0 in
-    let whole : r.1 ≡ codes " record " ++ drop 8 r.1 = sym (take-append-drop 8 r.1) ∙ ap (λ v. v ++ drop 8 r.1) verb in
-    let good : IsLine read = record { least = least; most = most; file = b.1 } in (
-      subst IsLine t.1 good,
-      is ∙ ap (λ x. decimal r.0 ++ x) whole ∙ sym (append_assoc (decimal r.0) (codes " record ") (drop 8 r.1)) ∙ ap spelling t.1,
-    )
+pub ropes_found : (words : Rest) (rs : List RopeArg) → ropes_of words ≡ Some rs → (words ≡ map rope_text rs) × Every IsRope rs
+ropes_found [] rs e = let s = some_is [] rs e in (ap (map rope_text) s, subst (Every IsRope) s tt)
+ropes_found (w ∷ ws) rs e =
+    let a = bind_ok (rope_of w) _ rs e in
+    let b = map_ok (ropes_of ws) (λ l. a.0 ∷ l) rs a.2 in
+    let p = rope_of_found w a.0 a.1 in
+    let q = ropes_found ws b.0 b.1 in
+    let whole : w ∷ ws ≡ map rope_text (a.0 ∷ b.0) = cc in
+    let every : Every IsRope (a.0 ∷ b.0) = (p.1, q.1) in
+    (whole ∙ ap (map rope_text) b.2, subst (Every IsRope) b.2 every)
 
--- a line that is read is in the form
-pub line_at-Some : (bytes : List ℕ) (l : Line) → line_at bytes ≡ Some l → IsLine l × (bytes ≡ spelling l)
-line_at-Some bytes l e =
-    let r = some_then (caller_at bytes) l e in
-    let c = caller_at-Some bytes r.0.0 r.0.1 r.1 in
-    spelled_behind r.0 l bytes c.0 c.1 c.2 r.2
+pub ropes_again : (rs : List RopeArg) → Every IsRope rs → ropes_of (map rope_text rs) ≡ Some rs
+ropes_again [] h = refl
+ropes_again (r ∷ rs) h =
+    ap (option_and_then (λ x. option_map (λ l. x ∷ l) (ropes_of (map rope_text rs)))) (rope_of_again r h.0) ∙ ap (option_map (λ l. r ∷ l)) (ropes_again rs h.1)
 
--- one line more
-pub read_more : (bytes : List ℕ) (front grown : List Line) (rest line more : List ℕ) (l : Line) → lines_of bytes ≡ map spelling front ++ lines_of rest → lines_of rest ≡ line ∷ lines_of more →
-    line ≡ spelling l → grown ≡ front ++ l ∷ [] → lines_of bytes ≡ map spelling grown ++ lines_of more
-read_more bytes front grown rest line more l before cut is longer =
-    before ∙ ap (λ r. map spelling front ++ r) (cut ∙ ap (λ x. x ∷ lines_of more) is)
-    ∙ sym (ap (λ g. map spelling g ++ lines_of more) longer ∙ ap (λ m. m ++ lines_of more) (map-append spelling front (l ∷ [])) ∙ append_assoc (map spelling front) (spelling l ∷ []) (lines_of more))
+abbrev IsKey : List ℕ → Type 0
+IsKey key = IsTrue (is_key key)
 
--- what isn't read is bad
-pub unread : (bad : List ℕ) → line_at bad ≡ None → (l : Line) → IsLine l → bad ≡ spelling l → ⊥
-unread bad none l good is =
-    let some : line_at bad ≡ Some l = ap line_at is ∙ line_at-spelled l good in
-    let e : Some l ≡ None = sym some ∙ none in cc
+pub keys_found : (words rs : Rest) → keys_of words ≡ Some rs → (words ≡ rs) × Every (λ key. IsTrue (is_key key)) rs
+keys_found [] rs e = let s = some_is [] rs e in (s, subst (Every IsKey) s tt)
+keys_found (w ∷ ws) rs e =
+    let a = bind_ok (key_of w) _ rs e in
+    let b = map_ok (keys_of ws) (λ l. a.0 ∷ l) rs a.2 in
+    let p = key_of_found w a.0 a.1 in
+    let q = keys_found ws b.0 b.1 in
+    let whole : w ∷ ws ≡ a.0 ∷ b.0 = cc in
+    let every : Every IsKey (a.0 ∷ b.0) = (p.1, q.1) in
+    (whole ∙ b.2, subst (Every IsKey) b.2 every)
+
+pub keys_again : (rs : Rest) → Every (λ key. IsTrue (is_key key)) rs → keys_of rs ≡ Some rs
+keys_again [] h = refl
+keys_again (r ∷ rs) h = ap (option_and_then (λ x. option_map (λ l. x ∷ l) (keys_of rs))) (key_of_again r h.0) ∙ ap (option_map (λ l. r ∷ l)) (keys_again rs h.1)

@@ -1,12 +1,27 @@
-//! The script language and the text of a history. So far a script has lines of one form, `CALLER record FILE`.
+//! The script language: lines to calls, and the text of a history.
 #![tactic(auto)]
 
-mod file_names;
-mod lines;
+mod arguments;
+mod forms;
+mod keys;
+mod numbers;
+mod owners;
+mod phrases;
+mod reader;
 mod samples;
+mod scripts;
+mod sentence;
 mod text;
+mod variables;
+mod verbs;
+mod words;
 
-pub use file_names::file_name;
-pub use lines::{Line, ScriptError, parse};
-pub use samples::{sample_files, sample_place};
-pub use text::history_text;
+pub use forms::is_file;
+pub use reader::parse;
+pub use scripts::{ArgList, Cause, Line, RopeArg, Script, ScriptError, Verb};
+pub use text::entry_text;
+pub use variables::{Env, resolve};
+pub use verbs::VerbName;
+
+#[cfg(test)]
+mod tests;

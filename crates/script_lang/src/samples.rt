@@ -1,34 +1,70 @@
-//! The sample files that a script names.
+//! The sample files of a script, by first mention.
 
-ghost use Rattle.std.specs.Prelude.{◌≡◌, ◌<◌, IfOk, IfSome, length};
-ghost use Rattle.script_lang.specs.Samples.{place_of, samples_of};
+ghost use Rattle.std.specs.Prelude.{◌≡◌, ℕ, [], ◌+◌, ◌≤◌, ◌<◌, ◌^◌, length, IfOk, OnOk};
+ghost use Rattle.script_lang.specs.Samples.{place_of, tape_of};
+ghost use Rattle.script_lang.specs.Parts.{mention};
 
-use crate::lines::Line;
-use std::alloc::{AllocError, Global};
-use voice_units::Name;
+use crate::keys::NameKey;
+use indexmap::IndexSet;
+use std::alloc::Global;
+use std::marker::Model;
+use voice_units::{Name, NoMemory};
 
-/// The place of a name among names, counted from 0; `None` exactly where it isn't there.
-pub fn sample_place(names: &[Name], name: &Name) -> Option<usize>
-    ensures value { result ≡ place_of names.now name.now }
-    ensures within { IfSome result (λ k. k < length names.now) }
-{
-    for (i, n) in names.iter().enumerate() {
-        if n.bytes() == name.bytes() {
-            return Some(i);
-        }
-    }
-    None
+/// The sample files that lines named so far, each once, in the order of their first mention.
+#[derive(Drop)]
+pub struct Samples {
+    names: IndexSet<NameKey>,
 }
 
-/// The sample files of a script by first mention.
-pub fn sample_files(alloc: Global, lines: &[Line]) -> Result<Vec<Name>, AllocError>
-    ensures { IfOk result (λ v. v.items ≡ samples_of lines.now) }
-{
-    let mut names = Vec::new(alloc);
-    for line in lines {
-        if sample_place(&names, &line.file).is_none() {
-            names.push(line.file)?;
+impl Model for Samples {
+    ghost use Rattle.std.specs.Prelude.{List, ℕ};
+
+    ghost Value = { List (List ℕ) };
+
+    ghost view = { λ s. s.names.keys };
+}
+
+impl Samples {
+    /// No sample file.
+    pub fn new(alloc: Global) -> Samples
+        ensures { result ≡ [] }
+    {
+        Samples {
+            names: IndexSet::new(alloc),
         }
     }
-    Ok(names)
+
+    /// The number of the tape of a sample file: its place, or the next one.
+    #[tactic(auto, using(crate::proofs::Names::place_is))]
+    pub fn tape_of(&self, name: &Name) -> u32
+        requires { length self.now < 2 ^ 32 }
+        ensures { result ≡ tape_of self.now name.now }
+    {
+        let place = self.names.get_index_of(&NameKey::of(name));
+        place.unwrap_or(self.names.len()) as u32
+    }
+
+    /// Adds a sample file, if it is new.
+    #[tactic(auto, using(crate::proofs::Names::mention_is, crate::proofs::Names::mention_grows))]
+    pub fn mention(&mut self, name: Option<Name>) -> Result<(), NoMemory>
+        ensures ok { OnOk result (self.new ≡ mention self.old name) }
+        ensures grows { length self.new ≤ length self.old + 1 }
+    {
+        if let Some(name) = name {
+            self.names.insert(NameKey::of(&name))?;
+        }
+        Ok(())
+    }
+
+    /// Their names.
+    pub fn names(&self, alloc: Global) -> Result<Vec<Name>, NoMemory>
+        ensures { IfOk result (λ v. v.items ≡ self.now) }
+    {
+        let keys = self.names.as_slice();
+        let mut names = Vec::with_capacity(alloc, keys.len())?;
+        for key in keys {
+            names.push(key.name())?;
+        }
+        Ok(names)
+    }
 }

@@ -1,17 +1,25 @@
 -- Histories that follow the lines of a script.
-use Rattle.std.proofs.Common.{◌≡◌, ℕ, ◌+◌, ◌<◌, List, [], ◌∷◌, ◌++◌, length, get_or, take, map, Some, Option, sym, refl, ap, subst, ◌∙◌, Result, Ok, Err, Bool, true, false, cond, filter}
-use Rattle.std.specs.Prelude.{unwrap_or, OnOk, ◌==◌}
+use Rattle.std.proofs.Common.{◌≡◌, ℕ, ◌+◌, ◌<◌, List, [], ◌∷◌, ◌++◌, length, get_or, take, map, Some, Option, sym, refl, ap, subst, ◌∙◌, Result, Ok, Err, Bool, true, false, cond, zero, suc}
+use Rattle.std.specs.Prelude.{OnOk, ◌==◌, All}
 use Rattle.std.specs.Result.{is_err}
 use Rattle.std.proofs.lemmas.List.{map-append, take_more}
-use Rattle.voice_units.specs.declared.pieces.Take.{Take}
+use Rattle.std.proofs.lemmas.List.Elements.{All-head, All-tail}
 use Rattle.voice_model.specs.declared.calls.Entry.{Entry}
 use Rattle.voice_model.specs.declared.calls.Call.{Call}
-use Rattle.voice_model.specs.declared.calls.Call.TheVariants.{Record}
-use Rattle.voice_model.specs.Tapes.{whole_of}
+use Rattle.voice_model.specs.Follows.{Follows, Does, Binding, variables_after}
 use Rattle.voice_store.specs.Recording.{State, opened, Legal, IsAnswer, state_after, after}
-use Rattle.script_lang.specs.declared.lines.Line.{Line}
-use Rattle.script_lang.specs.Samples.{samples_of, place_of}
-use Rattle.voice_main.specs.Ran.{Follows, Serial, said, asked}
+use Rattle.script_lang.specs.declared.scripts.Line.{Line}
+use Rattle.script_lang.specs.declared.scripts.Verb.{Verb}
+use Rattle.script_lang.specs.declared.scripts.Verb.TheVariants as verbs
+use Rattle.script_lang.specs.Shown.{Reading}
+use Rattle.script_lang.specs.Verbs.{is_built_verb}
+use Rattle.script_lang.specs.Whole.{IsLineOf, IsWhole}
+use Rattle.script_lang.specs.Parts.{served}
+use Rattle.script_lang.specs.Errands.{errand_of, asked}
+use Rattle.voice_main.specs.Ran.{InOrder, EachFollows, Serial, said, asked_by, lines_of_caller, entries_of_caller}
+use Rattle.voice_main.proofs.Built.{IsRecord, built_records}
+
+-- ---- one call more
 
 pub legal-push : (s : State) (tapes : List (List ℕ)) (history : List Entry) (e : Entry) → Legal s tapes history → IsAnswer (after s tapes history) tapes e → Legal s tapes (history ++ e ∷ [])
 legal-push s tapes [] e legal answer = (answer, tt)
@@ -33,58 +41,94 @@ pub after-more : (mid new : State) (tapes kept : List (List ℕ)) (history grown
 after-more mid new tapes kept history grown e same is step longer =
     step ∙ ap (λ t. state_after mid t e) same ∙ ap (λ s. state_after s tapes e) is ∙ sym (after-push opened tapes history e) ∙ sym (ap (after opened tapes) longer)
 
-pub follows-more : (samples tapes : List (List ℕ)) (lines : List Line) (i : ℕ) (line : Line) (history grown : List Entry) (e : Entry) → i < length lines → line ≡ get_or lines i line →
-    said e ≡ asked samples tapes line → Follows samples tapes (take i lines) history → grown ≡ history ++ e ∷ [] → Follows samples tapes (take (i + 1) lines) grown
-follows-more samples tapes lines i line history grown e within is same so_far longer =
-    ap (map said) longer ∙ map-append said history (e ∷ []) ∙ ap (λ l. l ++ said e ∷ []) so_far ∙ ap (λ x. map (asked samples tapes) (take i lines) ++ x ∷ []) same
-    ∙ sym (ap (map (asked samples tapes)) (take_more lines i line within ∙ ap (λ x. take i lines ++ x ∷ []) (sym is)) ∙ map-append (asked samples tapes) (take i lines) (line ∷ []))
+pub order-more : (tapes : List (List ℕ)) (lines : List Line) (i : ℕ) (line : Line) (history grown : List Entry) (e : Entry) → i < length lines → line ≡ get_or lines i line →
+    said e ≡ asked_by tapes line → InOrder tapes (take i lines) history → grown ≡ history ++ e ∷ [] → InOrder tapes (take (i + 1) lines) grown
+order-more tapes lines i line history grown e within is same so_far longer =
+    ap (map said) longer ∙ map-append said history (e ∷ []) ∙ ap (λ l. l ++ said e ∷ []) so_far ∙ ap (λ x. map (asked_by tapes) (take i lines) ++ x ∷ []) same
+    ∙ sym (ap (map (asked_by tapes)) (take_more lines i line within ∙ ap (λ x. take i lines ++ x ∷ []) (sym is)) ∙ map-append (asked_by tapes) (take i lines) (line ∷ []))
 
--- the call that the loop makes is the line's
-pub same_call : (samples tapes : List (List ℕ)) (line : Line) (place : Option ℕ) (tape : ℕ) (made : Take) (e : Entry) → place ≡ place_of samples line.file → place ≡ Some tape → made ≡ whole_of tapes tape →
-    e.caller ≡ line.caller → e.call ≡ Record made → said e ≡ asked samples tapes line
-same_call samples tapes line place tape made e placed is whole caller call =
-    let at : tape ≡ unwrap_or (place_of samples line.file) 0 = ap (λ o. unwrap_or o 0) (sym is ∙ placed) in
-    ap (λ c. (c, e.call)) caller ∙ ap (λ (c : Call). (line.caller, c)) (call ∙ ap Record (whole ∙ ap (whole_of tapes) at))
+-- ---- each caller's entries
 
-same_pick : {X : Type 0} (b : Bool) (f : X → ℕ × Call) (x : X) (xs : List X) (p : ℕ × Call) (ps : List (ℕ × Call)) → f x ≡ p → map f xs ≡ ps → map f (cond b (x ∷ xs) xs) ≡ cond b (p ∷ ps) ps
+-- each line records
+abbrev pub Records : List Line → Type 0
+Records [] = Unit {0}
+Records (l ∷ ls) = IsRecord l.verb × Records ls
+
+pub records_all : (n callers : ℕ) (lines : List Line) → All (IsLineOf is_built_verb n callers) lines → Records lines
+records_all n callers [] h = tt
+records_all n callers (l ∷ ls) h =
+    (built_records l.verb (All-head (IsLineOf is_built_verb n callers) l ls h).verb, records_all n callers ls (All-tail (IsLineOf is_built_verb n callers) l ls h))
+
+records_take : (k : ℕ) (lines : List Line) → Records lines → Records (take k lines)
+records_take zero lines h = tt
+records_take (suc k) [] h = tt
+records_take (suc k) (l ∷ ls) h = (h.0, records_take k ls h.1)
+
+records_cond : (b : Bool) (l : Line) (ls : List Line) → IsRecord l.verb → Records ls → Records (cond b (l ∷ ls) ls)
+records_cond true l ls p q = (p, q)
+records_cond false l ls p q = q
+
+records_of_caller : (caller : ℕ) (lines : List Line) → Records lines → Records (lines_of_caller caller lines)
+records_of_caller caller [] h = tt
+records_of_caller caller (l ∷ ls) h = records_cond (l.caller == caller) l (lines_of_caller caller ls) h.0 (records_of_caller caller ls h.1)
+
+-- a line that records makes the one entry that it asks for, whatever its caller's variables are
+does_record : (tapes : List (List ℕ)) (variables : List Binding) (verb : Verb) (tape : ℕ) (e : Entry) → verb ≡ verbs.Record tape → Some e.call ≡ asked tapes verb [] → Does (asked tapes verb variables) (served verb) (e ∷ [])
+does_record tapes variables verb tape e is same =
+    let P : Verb → Type 0 = λ v. Some e.call ≡ asked tapes v [] → Does (asked tapes v variables) (served v) (e ∷ []) in
+    subst P (sym is) (λ h. (cc, refl)) same
+
+follows_lines : (tapes : List (List ℕ)) (variables : List Binding) (lines : List Line) (entries : List Entry) → Records lines → InOrder tapes lines entries → Follows variables (map (errand_of tapes) lines) entries
+follows_lines tapes variables [] [] records order = refl
+follows_lines tapes variables [] (e ∷ es) records order = cc
+follows_lines tapes variables (l ∷ ls) [] records order = cc
+follows_lines tapes variables (l ∷ ls) (e ∷ es) records order =
+    let first : said e ≡ asked_by tapes l = cc in
+    let rest : map said es ≡ map (asked_by tapes) ls = cc in (
+      e ∷ [],
+      es,
+      refl,
+      does_record tapes variables l.verb records.0.0 e records.0.1 (ap (λ (p : ℕ × Option Call). p.1) first),
+      follows_lines tapes (variables_after l.bind (e ∷ []) variables) ls es records.1 rest,
+    )
+
+same_pick : {X : Type 0} (b : Bool) (f : X → ℕ × Option Call) (x : X) (xs : List X) (p : ℕ × Option Call) (ps : List (ℕ × Option Call)) → f x ≡ p → map f xs ≡ ps → map f (cond b (x ∷ xs) xs) ≡ cond b (p ∷ ps) ps
 same_pick true f x xs p ps first rest = ap (λ q. q ∷ map f xs) first ∙ ap (λ q. p ∷ q) rest
 same_pick false f x xs p ps first rest = rest
 
--- what holds of all callers holds of each
-each_follows : (samples tapes : List (List ℕ)) (lines : List Line) (history : List Entry) (c : ℕ) → Follows samples tapes lines history →
-    Follows samples tapes (filter (λ l. l.caller == c) lines) (filter (λ e. e.caller == c) history)
-each_follows samples tapes [] [] c e = refl
-each_follows samples tapes [] (h ∷ history) c e = cc
-each_follows samples tapes (l ∷ lines) [] c e = cc
-each_follows samples tapes (l ∷ lines) (h ∷ history) c e =
-    let first : said h ≡ asked samples tapes l = cc in
-    let rest : map said history ≡ map (asked samples tapes) lines = cc in
-    let callers : h.caller ≡ l.caller = ap (λ (p : ℕ × Call). p.0) first in
-    same_pick (h.caller == c) said h (filter (λ e. e.caller == c) history) (asked samples tapes l) (map (asked samples tapes) (filter (λ l. l.caller == c) lines)) first (each_follows samples tapes lines history c rest)
-    ∙ ap (λ n. cond (n == c) (asked samples tapes l ∷ map (asked samples tapes) (filter (λ l. l.caller == c) lines)) (map (asked samples tapes) (filter (λ l. l.caller == c) lines))) callers
-    ∙ sym (same_pick (l.caller == c) (asked samples tapes) l (filter (λ l. l.caller == c) lines) (asked samples tapes l) (map (asked samples tapes) (filter (λ l. l.caller == c) lines)) refl refl)
+-- what is in order is in order for each caller
+order_of_caller : (tapes : List (List ℕ)) (caller : ℕ) (lines : List Line) (history : List Entry) → InOrder tapes lines history → InOrder tapes (lines_of_caller caller lines) (entries_of_caller caller history)
+order_of_caller tapes c [] [] e = refl
+order_of_caller tapes c [] (h ∷ history) e = cc
+order_of_caller tapes c (l ∷ lines) [] e = cc
+order_of_caller tapes c (l ∷ lines) (h ∷ history) e =
+    let first : said h ≡ asked_by tapes l = cc in
+    let rest : map said history ≡ map (asked_by tapes) lines = cc in
+    let callers : h.caller ≡ l.caller = ap (λ (p : ℕ × Option Call). p.0) first in
+    same_pick (h.caller == c) said h (entries_of_caller c history) (asked_by tapes l) (map (asked_by tapes) (lines_of_caller c lines)) first (order_of_caller tapes c lines history rest)
+    ∙ ap (λ n. cond (n == c) (asked_by tapes l ∷ map (asked_by tapes) (lines_of_caller c lines)) (map (asked_by tapes) (lines_of_caller c lines))) callers
+    ∙ sym (same_pick (l.caller == c) (asked_by tapes) l (lines_of_caller c lines) (asked_by tapes l) (map (asked_by tapes) (lines_of_caller c lines)) refl refl)
 
-pub nothing : (lines : List Line) (tapes : List (List ℕ)) (history : List Entry) → history ≡ [] → (k : ℕ) × Serial lines tapes k history
-nothing lines tapes history none =
-    (0, subst (Serial lines tapes 0) (sym none) (record { legal = tt; follows = refl; each = λ c. refl }))
+each_follows : (tapes : List (List ℕ)) (lines : List Line) (history : List Entry) → Records lines → InOrder tapes lines history → EachFollows tapes lines history
+each_follows tapes lines history records order = λ caller.
+    follows_lines tapes [] (lines_of_caller caller lines) (entries_of_caller caller history) (records_of_caller caller lines records) (order_of_caller tapes caller lines history order)
 
-pub serial_from : (lines : List Line) (tapes samples : List (List ℕ)) (k : ℕ) (made history : List Entry) → samples ≡ samples_of lines → history ≡ made → Legal opened tapes made →
-    Follows samples tapes (take k lines) made → Serial lines tapes k history
-serial_from lines tapes samples k made history mentioned same legal follows =
-    let all = subst (λ n. Follows n tapes (take k lines) made) mentioned follows in
-    subst (Serial lines tapes k) (sym same) (record { legal = legal; follows = all; each = λ c. each_follows (samples_of lines) tapes (take k lines) made c all })
+-- ---- the history of a run
 
--- the same, of the values that the run was given
-pub ran : (lines given : List Line) (tapes lent samples names : List (List ℕ)) (k : ℕ) (made history : List Entry) → given ≡ lines → lent ≡ tapes → names ≡ samples → samples ≡ samples_of lines →
-    history ≡ made → Legal opened lent made → Follows names lent (take k given) made → Serial lines tapes k history
-ran lines given tapes lent samples names k made history same_lines same_tapes same_names mentioned same legal follows =
-    serial_from lines tapes samples k made history mentioned same (subst (λ t. Legal opened t made) same_tapes legal)
-    (subst (λ l. Follows samples tapes (take k l) made) same_lines (subst (λ t. Follows samples t (take k given) made) same_tapes (subst (λ n. Follows n lent (take k given) made) same_names follows)))
+pub nothing : (tapes : List (List ℕ)) (lines : List Line) (history : List Entry) → history ≡ [] → (k : ℕ) × Serial tapes lines k history
+nothing tapes lines history none =
+    (0, subst (Serial tapes lines 0) (sym none) (record { legal = tt; order = refl; each = λ c. refl }))
 
-pub ran_whole : (lines given : List Line) (tapes lent samples names : List (List ℕ)) (made history : List Entry) → given ≡ lines → lent ≡ tapes → names ≡ samples → samples ≡ samples_of lines →
-    history ≡ made → Legal opened lent made → Follows names lent (take (length given) given) made → Serial lines tapes (length lines) history
-ran_whole lines given tapes lent samples names made history same_lines same_tapes same_names mentioned same legal follows =
-    subst (λ k. Serial lines tapes k history) (ap length same_lines) (ran lines given tapes lent samples names (length given) made history same_lines same_tapes same_names mentioned same legal follows)
+serial_from : (tapes : List (List ℕ)) (script : Reading) (k : ℕ) (made history : List Entry) → IsWhole is_built_verb script → history ≡ made → Legal opened tapes made → InOrder tapes (take k script.lines) made → Serial tapes script.lines k history
+serial_from tapes script k made history whole same legal order =
+    let records = records_take k script.lines (records_all (length script.samples) script.callers script.lines whole.lines) in
+    subst (Serial tapes script.lines k) (sym same) (record { legal = legal; order = order; each = each_follows tapes (take k script.lines) made records order })
+
+-- the same, of the tapes that the run was lent
+pub ran : (tapes lent : List (List ℕ)) (script : Reading) (k : ℕ) (made history : List Entry) → lent ≡ tapes → IsWhole is_built_verb script → history ≡ made → Legal opened lent made → InOrder lent (take k script.lines) made →
+    Serial tapes script.lines k history
+ran tapes lent script k made history same_tapes whole same legal order =
+    serial_from tapes script k made history whole same (subst (λ t. Legal opened t made) same_tapes legal) (subst (λ t. InOrder t (take k script.lines) made) same_tapes order)
 
 pub at_ok : {T E P : Type 0} (r : Result T E) → is_err r ≡ false → OnOk r P → P
 at_ok (Ok x) fine h = h

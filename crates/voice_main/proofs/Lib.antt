@@ -3,4 +3,7 @@ pub mod Exact
 pub mod Loaded
 pub mod Named
 pub mod Followed
+pub mod Built
+pub mod Stopped
 pub mod Written
+pub mod Texts

@@ -2,7 +2,7 @@
 use Rattle.std.proofs.Common.{◌≡◌, ℕ, ◌<◌, ◌≤◌, true, false, List, [], ◌∷◌, length, get_or, map, Some, None, Option, sym, ap, ◌∙◌, arith}
 use Rattle.std.specs.Prelude.{MatchOption, codes}
 use Rattle.std.proofs.lemmas.Bool.{false≢true}
-use Rattle.script_lang.specs.FileNames.{is_file}
+use Rattle.script_lang.specs.Forms.{is_file}
 use Rattle.voice_main.specs.Words.{IsRun, IsRefused}
 
 pub two_items : {X : Type 0} (f : X → List ℕ) (xs : List X) (v n : X) → 2 ≤ length xs → length xs < 3 → v ≡ get_or xs 0 v → n ≡ get_or xs 1 n → map f xs ≡ f v ∷ f n ∷ []

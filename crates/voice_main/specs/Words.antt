@@ -1,6 +1,6 @@
 -- The words of the command line.
 use Rattle.std.specs.Prelude.{ℕ, List, [], ◌∷◌, ◌≡◌, codes, IsTrue}
-use Rattle.script_lang.specs.FileNames.{is_file}
+use Rattle.script_lang.specs.Forms.{is_file}
 
 -- the words are `run NAME`
 pub record IsRun (words : List (List ℕ)) (name : List ℕ) : Type 0 where

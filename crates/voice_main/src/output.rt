@@ -1,15 +1,27 @@
 //! The text that a run prints.
 
-ghost use Rattle.std.specs.Prelude.{ℕ, List, Some, ◌≡◌, ◌≤◌, ◌++◌, ◌⊎◌, OnOk, IfSome, IsErrOf, take};
+ghost use Rattle.std.specs.Prelude.{ℕ, List, Some, ◌≡◌, ◌≤◌, ◌++◌, ◌⊎◌, OnOk, IfOk, IfSome, IsErrOf, take};
 ghost use Rattle.voice_model.specs.Text.{text_of};
 ghost use Rattle.voice_outside.specs.Counters.{HasRisen};
 ghost use Rattle.voice_main.specs.Ran.{Performs};
 
 use crate::status::Status;
-use script_lang::history_text;
+use script_lang::entry_text;
 use std::alloc::Global;
 use voice_model::Entry;
 use voice_outside::{OutsideError, Sink};
+use voice_units::NoMemory;
+
+// The text of a history: one line for each entry, in order.
+fn history_text(alloc: Global, history: &[Entry]) -> Result<Vec<u8>, NoMemory>
+    ensures { IfOk result (λ text. text.items ≡ text_of history.now) }
+{
+    let mut text = Vec::new(alloc);
+    for (i, entry) in history.iter().enumerate() {
+        entry_text(i as u64 + 1, entry, &mut text)?;
+    }
+    Ok(text)
+}
 
 // Writes all the bytes. After an error the sink has taken a front of them.
 fn write_all<O: Sink>(out: &mut O, bytes: &[u8]) -> Result<(), OutsideError>

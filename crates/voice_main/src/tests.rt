@@ -42,21 +42,24 @@ fn shown<R: Threads + Wait + Sync>(
 
 #[test]
 fn scripts_print_their_replies(rt: HostRuntime) -> Result<(), Fail> {
-    let f20 = ("f20", "ABCDEFGHIJKLMNOPQRST");
+    let one = "1 1 record: rope 1 length 20\n";
+    let two = "1 1 record: rope 1 length 20\n2 16 record: rope 2 length 20\n";
     let absent = Status::NoFile(Name::new(b"gone")?);
+    // Words, the script `s`, how the run ends, and what it prints.
     let cases = [
         (["run", "s"].as_slice(), "", Status::Done, ""),
-        (
-            ["run", "s"].as_slice(),
-            "1 record f20",
-            Status::Done,
-            "1 1 record: rope 1 length 20\n",
-        ),
+        (["run", "s"].as_slice(), "1 record f20", Status::Done, one),
         (
             ["run", "s"].as_slice(),
             "1 record f20\n16 record f20\n",
             Status::Done,
-            "1 1 record: rope 1 length 20\n2 16 record: rope 2 length 20\n",
+            two,
+        ),
+        (
+            ["run", "s"].as_slice(),
+            "# \x01\n\n \t\n1\ta =  record f20\r\n",
+            Status::Done,
+            one,
         ),
         ([].as_slice(), "", Status::Usage, ""),
         (["run"].as_slice(), "", Status::Usage, ""),
@@ -71,13 +74,25 @@ fn scripts_print_their_replies(rt: HostRuntime) -> Result<(), Fail> {
         ),
         (
             ["run", "s"].as_slice(),
-            "1 record f20\n17 record f20\n",
+            "1 length 1",
+            Status::BadScript(1),
+            "",
+        ),
+        (
+            ["run", "s"].as_slice(),
+            "1 record f20\n17 record f20",
             Status::BadScript(2),
             "",
         ),
         (
             ["run", "s"].as_slice(),
-            "1 record f20\n\n",
+            "1 record f20\n\n01 record f20",
+            Status::BadScript(3),
+            "",
+        ),
+        (
+            ["run", "s"].as_slice(),
+            "1 record gone\n1 sing a",
             Status::BadScript(2),
             "",
         ),
@@ -88,6 +103,7 @@ fn scripts_print_their_replies(rt: HostRuntime) -> Result<(), Fail> {
             "",
         ),
     ];
+    let f20 = ("f20", "ABCDEFGHIJKLMNOPQRST");
     for (words, script, status, text) in cases {
         let (ended, printed) = shown(&rt, rt.alloc(), words, &[("s", script), f20], &[], &[])?;
         assert_eq!(rt; ended, status, "{script}");

@@ -1,12 +1,12 @@
 //! The top call.
 
-ghost use Rattle.std.specs.Prelude.{ℕ, List, [], Some, ◌≡◌, ◌≤◌, ◌++◌, ◌⊎◌, All, IfOk, IfErr, IfSome, map, string_bytes, length, take};
+ghost use Rattle.std.specs.Prelude.{ℕ, List, [], Some, ◌≡◌, ◌≤◌, ◌++◌, ◌⊎◌, IfOk, IfErr, IfSome, map, string_bytes, length, take};
 ghost use Rattle.std.specs.Arc.{arc_value};
 ghost use Rattle.voice_model.specs.Text.{text_of};
 ghost use Rattle.voice_outside.specs.Counters.{HasRisen};
-ghost use Rattle.script_lang.specs.Script.{IsLine};
-ghost use Rattle.script_lang.specs.declared.lines.Line.{Line};
-ghost use Rattle.script_lang.specs.Samples.{samples_of};
+ghost use Rattle.script_lang.specs.Shown.{Reading};
+ghost use Rattle.script_lang.specs.Verbs.{is_built_verb};
+ghost use Rattle.script_lang.specs.Whole.{IsWhole};
 ghost use Rattle.voice_main.specs.Words.{IsRefused};
 ghost use Rattle.voice_main.specs.Ran.{IsReady, IsExact, Stops, Serial, Comes, SoFar, Performs, IsEarly, load_status_of, script_status_of};
 
@@ -15,14 +15,13 @@ use crate::output::print;
 use crate::script_lines::run_lines;
 use crate::status::Status;
 use crate::words::script_name;
-use script_lang::{Line, ScriptError, parse, sample_files};
+use script_lang::{Script, ScriptError, parse};
 use std::alloc::Global;
 use std::sync::{Arc, Wait};
 use std::thread::Threads;
 use voice_model::{Entry, Tapes};
 use voice_outside::{Disk, Gate, Shelf, Sink};
 use voice_store::Store;
-use voice_units::Name;
 
 /// How a run ended, with the disk and the history.
 #[derive(Drop)]
@@ -35,8 +34,7 @@ pub struct Ended<D> {
 // A script with its sample files.
 #[derive(Drop)]
 struct Scripted {
-    lines: Vec<Line>,
-    samples: Vec<Name>,
+    script: Script,
     tapes: Arc<Tapes, Global>,
 }
 
@@ -54,17 +52,15 @@ fn script_status(e: ScriptError) -> Status
     ensures { result ≡ script_status_of e }
 {
     match e {
-        ScriptError::BadLine(line) => Status::BadScript(line),
+        ScriptError::BadLine(line, _) => Status::BadScript(line),
         ScriptError::NoMemory => Status::NoMemory,
     }
 }
 
 fn prepared<K: Shelf>(alloc: Global, words: &[String], shelf: &mut K) -> Result<Scripted, Status>
-    ensures ready { IfOk result (λ s. IfSome (K.files shelf.old) (λ files. IsReady (map string_bytes words.now) files s.lines.items (arc_value s.tapes))) }
-    ensures samples { IfOk result (λ s. s.samples.items ≡ samples_of s.lines.items) }
-    ensures each { IfOk result (λ s. All IsLine s.lines.items) }
-    ensures few { IfOk result (λ s. length s.lines.items ≤ 65535) }
-    ensures there { IfOk result (λ s. length (arc_value s.tapes) ≡ length s.samples.items) }
+    ensures ready { IfOk result (λ s. IfSome (K.files shelf.old) (λ files. IsReady (map string_bytes words.now) files s.script (arc_value s.tapes))) }
+    ensures whole { IfOk result (λ s. IsWhole is_built_verb s.script) }
+    ensures there { IfOk result (λ s. length (arc_value s.tapes) ≡ length s.script.samples) }
     ensures usage { IsRefused (map string_bytes words.now) → result ≡ Err Status.Usage }
     ensures stops { IfErr result (Stops (map string_bytes words.now) (K.files shelf.old) (HasRisen (K.faults shelf.old) (K.faults shelf.new))) }
     ensures kept { K.files shelf.new ≡ K.files shelf.old }
@@ -77,48 +73,39 @@ fn prepared<K: Shelf>(alloc: Global, words: &[String], shelf: &mut K) -> Result<
         Ok(bytes) => bytes,
         Err(e) => return Err(load_status(e)),
     };
-    let lines = match parse(alloc, &bytes) {
-        Ok(lines) => lines,
+    let script = match parse(alloc, &bytes) {
+        Ok(script) => script,
         Err(e) => return Err(script_status(e)),
     };
-    let Ok(samples) = sample_files(alloc, &lines) else {
-        return Err(Status::NoMemory);
-    };
-    let tapes = match files(alloc, shelf, &samples) {
+    let tapes = match files(alloc, shelf, &script.samples) {
         Ok(tapes) => tapes,
         Err(e) => return Err(load_status(e)),
     };
     let Ok(tapes) = Arc::new(alloc, Tapes::new(tapes)) else {
         return Err(Status::NoMemory);
     };
-    Ok(Scripted {
-        lines,
-        samples,
-        tapes,
-    })
+    Ok(Scripted { script, tapes })
 }
 
 // Makes the calls of a script, and prints their history.
 fn perform<O: Sink, D: Disk, G: Gate>(
     alloc: Global,
-    script: &Scripted,
+    scripted: &Scripted,
     out: &mut O,
     disk: D,
     gate: &G,
 ) -> Ended<D>
-    requires samples { script.now.samples.items ≡ samples_of script.now.lines.items }
-    requires each { All IsLine script.now.lines.items }
-    requires few { length script.now.lines.items ≤ 65535 }
-    requires there { length (arc_value script.now.tapes) ≡ length script.now.samples.items }
-    ensures serial { (k : ℕ) × Serial script.now.lines.items (arc_value script.now.tapes) k result.history.items }
-    ensures whole { result.status ≡ Status.Done → Serial script.now.lines.items (arc_value script.now.tapes) (length script.now.lines.items) result.history.items }
-    ensures sink_fault { result.status ≡ Status.SinkFault → Serial script.now.lines.items (arc_value script.now.tapes) (length script.now.lines.items) result.history.items }
+    requires whole { IsWhole is_built_verb scripted.now.script }
+    requires there { length (arc_value scripted.now.tapes) ≡ length scripted.now.script.samples }
+    ensures serial { (k : ℕ) × Serial (arc_value scripted.now.tapes) scripted.now.script.lines k result.history.items }
+    ensures whole { result.status ≡ Status.Done → Serial (arc_value scripted.now.tapes) scripted.now.script.lines (length scripted.now.script.lines) result.history.items }
+    ensures sink_fault { result.status ≡ Status.SinkFault → Serial (arc_value scripted.now.tapes) scripted.now.script.lines (length scripted.now.script.lines) result.history.items }
     ensures which { Performs (HasRisen (O.faults out.old) (O.faults out.new) ⊎ HasRisen (O.empty_takes out.old) (O.empty_takes out.new)) result.status }
     ensures done { result.status ≡ Status.Done → IfSome (O.contents out.old) (λ had. O.contents out.new ≡ Some (had ++ text_of result.history.items)) }
     ensures prefix { IfSome (O.contents out.old) (λ had. (n : ℕ) × (O.contents out.new ≡ Some (had ++ take n (text_of result.history.items)))) }
     ensures disk { result.disk ≡ disk }
 {
-    let Ok(tapes) = Arc::try_clone(&script.tapes) else {
+    let Ok(tapes) = Arc::try_clone(&scripted.tapes) else {
         return Ended {
             status: Status::NoMemory,
             disk,
@@ -135,13 +122,7 @@ fn perform<O: Sink, D: Disk, G: Gate>(
             };
         }
     };
-    let ran = run_lines(
-        &mut store,
-        &script.tapes,
-        &script.samples,
-        &script.lines,
-        gate,
-    );
+    let ran = run_lines(alloc, &mut store, &scripted.tapes, &scripted.script, gate);
     let (disk, history) = store.close();
     if ran.is_err() {
         return Ended {
@@ -186,7 +167,7 @@ fn carry_out<K: Shelf, O: Sink, D: Disk, G: Gate>(
     ensures disk { result.disk ≡ disk }
 {
     match prepared(alloc, words, shelf) {
-        Ok(script) => perform(alloc, &script, out, disk, gate),
+        Ok(scripted) => perform(alloc, &scripted, out, disk, gate),
         Err(status) => Ended {
             status,
             disk,
@@ -215,7 +196,7 @@ pub fn run<R: Threads + Wait + Sync, K: Shelf, O: Sink, D: Disk, G: Gate>(
     // What the words and the files decide comes, but for a fault of the shelf and want of memory.
     ensures exact { IfSome (K.files shelf.old) (λ files. IsExact (map string_bytes words.now) files result.status) }
     // Where all is there and no count rose, the run is done, or memory was wanted.
-    ensures complete { IfSome (K.files shelf.old) (λ files. (lines : List Line) (tapes : List (List ℕ)) → IsReady (map string_bytes words.now) files lines tapes
+    ensures complete { IfSome (K.files shelf.old) (λ files. (script : Reading) (tapes : List (List ℕ)) → IsReady (map string_bytes words.now) files script tapes
         → (HasRisen (K.faults shelf.old) (K.faults shelf.new) → ⊥)
         → (HasRisen (O.faults out.old) (O.faults out.new) ⊎ HasRisen (O.empty_takes out.old) (O.empty_takes out.new) → ⊥)
         → (result.status ≡ Status.Done) ⊎ (result.status ≡ Status.NoMemory)) }

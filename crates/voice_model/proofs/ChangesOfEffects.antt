@@ -41,7 +41,7 @@ brings_again form addresses (Swept ids) h = refl
 brings_again form addresses (Advanced moment) h = refl
 
 -- the changes of calls are made so
-abbrev MadeIf : Option (Effect Tagged) → Type 0
+abbrev pub MadeIf : Option (Effect Tagged) → Type 0
 MadeIf None = Unit {0}
 MadeIf (Some e) = IsMade e
 
@@ -72,10 +72,10 @@ pub number_length : (width n : ℕ) → length (number_bytes width n) ≡ width
 number_length zero n = refl
 number_length (suc width) n = ap suc (number_length width n)
 
-piece_length : (p : Piece) → length (piece_bytes p) ≡ 16
+pub piece_length : (p : Piece) → length (piece_bytes p) ≡ 16
 piece_length p = refl
 
-same_length : {A : Type 0} (f : A → List ℕ) (width : ℕ) → ((x : A) → length (f x) ≡ width) → (xs : List A) → length (flat_map f xs) ≡ width * length xs
+pub same_length : {A : Type 0} (f : A → List ℕ) (width : ℕ) → ((x : A) → length (f x) ≡ width) → (xs : List A) → length (flat_map f xs) ≡ width * length xs
 same_length f width each [] = omega arith
 same_length f width each (x ∷ xs) =
     let first = each x in

@@ -224,7 +224,7 @@ kept_without form d gone h free = record {
 
 -- ---- a row comes
 
-same_row : (row other : Row) → is_row row.class row.key other ≡ is_row other.class other.key row
+pub same_row : (row other : Row) → is_row row.class row.key other ≡ is_row other.class other.key row
 same_row row other =
     same_bool _ _ (λ e. both (class_number row.class == class_number other.class) (bytes_eq row.key other.key) (swapped_equal (class_number row.class) (class_number other.class) ∙ first _ _ e) (swapped_bytes other.key row.key (second _ _ e)))
     (λ e. both (class_number other.class == class_number row.class) (bytes_eq other.key row.key) (swapped_equal (class_number other.class) (class_number row.class) ∙ first _ _ e) (swapped_bytes row.key other.key (second _ _ e)))

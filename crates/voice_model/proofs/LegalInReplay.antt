@@ -67,7 +67,7 @@ module _ (f : Spot → Tagged) (same : (s : Spot) → spot_of (f s) ≡ s) where
   samples_filled [] = refl
   samples_filled (rope ∷ ropes) = ap (λ l. map f rope.samples ++ l) (samples_filled ropes) ∙ sym (map_append rope.samples (flat_map (λ rope. rope.samples) ropes))
 
-  used_filled : (r : Rebuilt) → live_pairs_of (durable_by f r.kept) ≡ used_pairs r.kept
+  pub used_filled : (r : Rebuilt) → live_pairs_of (durable_by f r.kept) ≡ used_pairs r.kept
   used_filled r = ap (pairs_of r.shape.block) (samples_filled r.ropes) ∙ pairs_filled r.shape.block (flat_map (λ rope. rope.samples) r.ropes)
 
   spots_pairs : (block : ℕ) (samples : List Tagged) → pairs_at block (spots_in_rope samples) ≡ pairs_of block samples

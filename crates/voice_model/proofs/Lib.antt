@@ -24,3 +24,13 @@ pub mod RowsOfReplay
 pub mod Alike
 pub mod Tagged
 pub mod Answers
+pub mod PiecesReplaced
+pub mod OneReading
+pub mod LegalOfCalls
+pub mod StatesOfImages
+pub mod Order
+pub mod PlacesKept
+pub mod BaseFiles
+pub mod BaseReadAgain
+pub mod BaseSpelled
+pub mod BaseSize

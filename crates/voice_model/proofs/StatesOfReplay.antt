@@ -44,11 +44,11 @@ normal_pieces (p ∷ q ∷ ps) h k =
     clash false e f = cc
 
 module _ (f : Spot → Tagged) (same : (s : Spot) → spot_of (f s) ≡ s) where
-  spots_again : (ss : List Spot) → spots_in_rope (map f ss) ≡ ss
+  pub spots_again : (ss : List Spot) → spots_in_rope (map f ss) ≡ ss
   spots_again [] = refl
   spots_again (s ∷ ss) = ap (λ x. x ∷ spots_in_rope (map f ss)) (same s) ∙ ap (λ l. s ∷ l) (spots_again ss)
 
-  map_length : (ss : List Spot) → length (map f ss) ≡ length ss
+  pub map_length : (ss : List Spot) → length (map f ss) ≡ length ss
   map_length [] = refl
   map_length (s ∷ ss) = ap suc (map_length ss)
 

@@ -4,6 +4,7 @@
 mod calls;
 mod changes;
 mod display;
+pub mod laws;
 mod lists;
 mod tapes;
 mod texts;
@@ -15,3 +16,6 @@ pub use lists::{
 };
 pub use tapes::Tapes;
 pub use texts::{Key, Note};
+
+#[cfg(test)]
+mod tests;

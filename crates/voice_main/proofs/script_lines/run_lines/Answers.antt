@@ -1,32 +1,47 @@
-use Rattle.std.proofs.Common.{◌<◌, ◌≤◌, ap, ◌∙◌, arith, refl, length, subst}
-use Rattle.std.specs.Prelude.{is_some, IfSome}
+use Rattle.std.proofs.Common.{◌≡◌, ℕ, ◌<◌, ◌∙◌, List, length, get_or, ap, sym, subst, Option, arith}
+use Rattle.voice_model.specs.declared.calls.Call.{Call}
 use Rattle.voice_model.specs.declared.calls.Entry.{Entry}
-use Rattle.voice_model.specs.declared.calls.Call.TheVariants.{Record}
-use Rattle.script_lang.specs.Samples.{place_of}
-use Rattle.script_lang.proofs.Places.{there, few_samples}
-use Rattle.voice_main.proofs.Followed.{legal-more, after-more, follows-more, same_call}
+use Rattle.voice_model.specs.Follows.{value_of}
+use Rattle.voice_store.specs.Recording.{TakesAreIn}
+use Rattle.script_lang.specs.Shown.{Reading}
+use Rattle.voice_main.proofs.Built.{built_records, asks_something, takes, line_at}
+use Rattle.voice_main.proofs.Followed.{legal-more, after-more, order-more}
 use Rattle.voice_main.proofs.script_lines.run_lines.Goals as goal
 
-pub unwrap-tape-requires : goal.unwrap-tape-requires
-unwrap-tape-requires g c =
-    ap is_some (c.sample_place.ensures.value ∙ ap (λ samples. place_of samples c.index-lines-i.result.file) c.requires.samples)
-    ∙ there c.args.lines.now c.loop-i.i c.index-lines-i.result c.loop-i-test.true c.index-lines-i.is
+pub unreachable-requires : goal.unreachable-requires
+unreachable-requires g c =
+    let lines : c.deref-line-items.result.now ≡ c.args.script.now.lines = c.deref-line-items.ensures.value ∙ ap (λ (s : Reading). s.lines) c.script.view_is in
+    let within : c.loop-line.line-index < length c.args.script.now.lines = omega (arith, c.loop-line-test.true, ap length lines) in
+    let is : c.line-item.result ≡ get_or c.args.script.now.lines c.loop-line.line-index c.line-item.result = c.line-item.is ∙ ap (λ ls. get_or ls c.loop-line.line-index c.line-item.result) lines in
+    let facts = line_at (length c.args.script.now.samples) c.args.script.now.callers c.args.script.now.lines c.loop-line.line-index c.line-item.result c.requires.lines.lines within is in
+    let asks = c.in_ok-call.ensures.value _ (λ name. ap (λ e. value_of e name) c.new-variables.ensures) in
+    asks_something c.args.tapes.now c.line-item.result.verb (built_records c.line-item.result.verb facts.verb) (sym asks ∙ c.in_default.is)
 
-pub overflow_cast-tape : goal.overflow_cast-tape
-overflow_cast-tape g c =
-    let within : c.unwrap-tape.result < length c.args.samples.now = subst (λ o. IfSome o (λ k. k < length c.args.samples.now)) c.unwrap-tape.ensures c.sample_place.ensures.within in
-    let few : length c.args.samples.now ≤ length c.args.lines.now = omega (arith, ap length c.requires.samples, few_samples c.args.lines.now) in
-    omega (arith, within, few, c.requires.few)
+pub apply-requires-clause-takes : goal.apply-requires-clause-takes
+apply-requires-clause-takes g c κs within_lives =
+    let lines : c.deref-line-items.result.now ≡ c.args.script.now.lines = c.deref-line-items.ensures.value ∙ ap (λ (s : Reading). s.lines) c.script.view_is in
+    let within : c.loop-line.line-index < length c.args.script.now.lines = omega (arith, c.loop-line-test.true, ap length lines) in
+    let is : c.line-item.result ≡ get_or c.args.script.now.lines c.loop-line.line-index c.line-item.result = c.line-item.is ∙ ap (λ ls. get_or ls c.loop-line.line-index c.line-item.result) lines in
+    let facts = line_at (length c.args.script.now.samples) c.args.script.now.callers c.args.script.now.lines c.loop-line.line-index c.line-item.result c.requires.lines.lines within is in
+    let asks = c.in_ok-call.ensures.value _ (λ name. ap (λ e. value_of e name) c.new-variables.ensures) in
+    let P : List (List ℕ) → Type 0 = λ tapes. TakesAreIn tapes c.in-Some.call in
+    subst P (sym c.loop-line.invariant.tapes)
+    (takes c.args.tapes.now (length c.args.script.now.samples) c.line-item.result.verb c.in-Some.call (built_records c.line-item.result.verb facts.verb) (sym c.in-Some.is ∙ asks) facts.tape c.requires.samples)
 
-pub loop-i-preserved : goal.loop-i-preserved
-loop-i-preserved g c =
+pub loop-line-preserved : goal.loop-line-preserved
+loop-line-preserved g c =
+    let lines : c.deref-line-items.result.now ≡ c.args.script.now.lines = c.deref-line-items.ensures.value ∙ ap (λ (s : Reading). s.lines) c.script.view_is in
+    let within : c.loop-line.line-index < length c.args.script.now.lines = omega (arith, c.loop-line-test.true, ap length lines) in
+    let is : c.line-item.result ≡ get_or c.args.script.now.lines c.loop-line.line-index c.line-item.result = c.line-item.is ∙ ap (λ ls. get_or ls c.loop-line.line-index c.line-item.result) lines in
+    let asks = c.in_ok-call.ensures.value _ (λ name. ap (λ e. value_of e name) c.new-variables.ensures) in
     let adds = c.in_ok-apply.ensures.ok in
-    let entry : Entry = record { caller = c.index-lines-i.result.caller; call = Record c.whole.result; reply = c.in_ok-apply.field-0; ack = (g.D.Disk.told c.loop-i.store.disk).calls } in
-    let same = same_call c.args.samples.now c.args.tapes.now c.index-lines-i.result c.sample_place.result c.unwrap-tape.result c.whole.result entry c.sample_place.ensures.value c.unwrap-tape.ensures c.whole.ensures refl refl in
+    let entry : Entry = record { caller = c.line-item.result.caller; call = c.in-Some.call; reply = c.in_ok-apply.field-0; ack = (g.D.Disk.told c.loop-line.store.disk).calls } in
+    let by_caller : Option Call → ℕ × Option Call = λ call. (c.line-item.result.caller, call) in
+    let same = ap by_caller (sym c.in-Some.is ∙ asks) in
     record {
-      tapes = adds.tapes ∙ c.loop-i.invariant.tapes;
-      legal = legal-more c.loop-i.store.state c.args.tapes.now c.loop-i.store.tapes c.loop-i.store.history c.apply.new.self.history entry c.loop-i.invariant.tapes c.loop-i.invariant.state c.loop-i.invariant.legal adds.answer adds.history;
-      state = after-more c.loop-i.store.state c.apply.new.self.state c.args.tapes.now c.loop-i.store.tapes c.loop-i.store.history c.apply.new.self.history entry c.loop-i.invariant.tapes c.loop-i.invariant.state adds.state adds.history;
-      disk = adds.disk ∙ c.loop-i.invariant.disk;
-      follows = follows-more c.args.samples.now c.args.tapes.now c.args.lines.now c.loop-i.i c.index-lines-i.result c.loop-i.store.history c.apply.new.self.history entry c.loop-i-test.true c.index-lines-i.is same c.loop-i.invariant.follows adds.history;
+      tapes = adds.tapes ∙ c.loop-line.invariant.tapes;
+      legal = legal-more c.loop-line.store.state c.args.tapes.now c.loop-line.store.tapes c.loop-line.store.history c.apply.new.self.history entry c.loop-line.invariant.tapes c.loop-line.invariant.state c.loop-line.invariant.legal adds.answer adds.history;
+      state = after-more c.loop-line.store.state c.apply.new.self.state c.args.tapes.now c.loop-line.store.tapes c.loop-line.store.history c.apply.new.self.history entry c.loop-line.invariant.tapes c.loop-line.invariant.state adds.state adds.history;
+      disk = adds.disk ∙ c.loop-line.invariant.disk;
+      order = order-more c.args.tapes.now c.args.script.now.lines c.loop-line.line-index c.line-item.result c.loop-line.store.history c.apply.new.self.history entry within is same c.loop-line.invariant.order adds.history;
     }

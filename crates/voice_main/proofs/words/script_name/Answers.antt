@@ -1,6 +1,6 @@
 use Rattle.std.proofs.Common.{◌≡◌, arith, rules, map, subst, true, false}
 use Rattle.std.specs.Prelude.{codes, string_bytes, MatchOption}
-use Rattle.script_lang.specs.FileNames.{is_file}
+use Rattle.script_lang.specs.Forms.{is_file}
 use Rattle.voice_main.proofs.Named.{two_items, named}
 use Rattle.voice_main.proofs.words.script_name.Goals as goal
 

@@ -1,0 +1,13 @@
+pub mod Opens
+pub mod Moves
+pub mod LaneStates
+pub mod Grants
+pub mod Leases
+pub mod Passing
+pub mod Keepers
+pub mod Bytes
+pub mod Lending
+pub mod Fillings
+pub mod Granting
+pub mod Samples
+pub mod Windows

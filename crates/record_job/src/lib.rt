@@ -1,0 +1,9 @@
+//! A streamed recording: whole blocks go out as soon as they are complete, and the rest is kept.
+#![tactic(auto)]
+
+mod taking;
+
+pub use taking::Taking;
+
+#[cfg(test)]
+mod tests;

@@ -1,0 +1,38 @@
+-- What lists of pieces keep.
+--     LieInFiles ps      each piece ends at most at 2 ^ 30, where the longest voice file ends
+--     IsKept ps      normal form inside the voice files
+--     IsRope ps      so are the pieces of a rope, and its samples fit 32 bits
+--     IsCounted ps n      the pieces of a rope of n samples
+--     AddsSpots old new ss      what keeps stays, and these places come behind
+use Rattle.std.specs.Prelude.{◌≡◌, ℕ, ◌+◌, ◌<◌, ◌≤◌, ◌^◌, List, [], ◌∷◌, ◌++◌}
+use Rattle.voice_units.specs.declared.pieces.Piece.{Piece}
+use Rattle.voice_units.specs.Spots.{Spot, spots_of, samples_in, IsNormal}
+
+-- each piece ends at most at 2 ^ 30, where the longest voice file ends
+abbrev pub LieInFiles : List Piece → Type 0
+LieInFiles [] = Unit {0}
+LieInFiles (p ∷ ps) = (p.from + p.len ≤ 2 ^ 30) × LieInFiles ps
+
+-- pieces in normal form that lie in their files
+pub record IsKept (ps : List Piece) : Type 0 where
+  pub normal : IsNormal ps
+  pub ends : LieInFiles ps
+
+-- the pieces of a rope: they are kept, and its length fits 32 bits
+pub record IsRope (ps : List Piece) : Type 0 where
+  pub normal : IsNormal ps
+  pub ends : LieInFiles ps
+  pub total : samples_in ps < 2 ^ 32
+
+-- the pieces of a rope of n samples
+pub record IsCounted (ps : List Piece) (n : ℕ) : Type 0 where
+  pub normal : IsNormal ps
+  pub ends : LieInFiles ps
+  pub total : n ≡ samples_in ps
+  pub fits : n < 2 ^ 32
+
+-- the new pieces are kept, and name the places of the old ones and then these
+pub record AddsSpots (old new : List Piece) (ss : List Spot) : Type 0 where
+  pub normal : IsNormal new
+  pub ends : LieInFiles new
+  pub spots : spots_of new ≡ spots_of old ++ ss

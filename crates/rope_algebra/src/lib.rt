@@ -1,0 +1,11 @@
+//! Ropes as pieces of voice files. An edit makes pieces and copies no sample.
+#![tactic(auto)]
+
+mod algebra;
+mod cuts;
+mod runs;
+
+pub use algebra::Pieces;
+
+#[cfg(test)]
+mod tests;

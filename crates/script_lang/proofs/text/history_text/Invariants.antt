@@ -1,6 +1,0 @@
-use Rattle.std.proofs.Common.{◌≡◌, take}
-use Rattle.voice_model.specs.Text.{text_of}
-use Rattle.script_lang.proofs.text.history_text.Given as goal
-
-abbrev pub invariant-loop-i : goal.invariant-loop-i
-invariant-loop-i l = l.text.items ≡ text_of (take l.i l.history)

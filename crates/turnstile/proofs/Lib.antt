@@ -1,0 +1,11 @@
+pub mod Views
+pub mod Turning
+pub mod Draws
+pub mod Looks
+pub mod Tells
+pub mod Leaves
+pub mod Opens
+pub mod Splits
+pub mod Joins
+pub mod Closes
+pub mod Many

@@ -1,0 +1,57 @@
+//! Measurements of the voice manager's parts, each as a ratio to the same work made bare, in one run.
+#![tactic(auto)]
+
+mod copying;
+mod parsing;
+mod report;
+mod turning;
+
+use std::alloc::AllocError;
+use std::env::{Env, args};
+use std::io;
+use std::rt::Clock;
+use std::sync::Wait;
+use std::thread::Threads;
+
+const MEASUREMENTS: &str = "\
+voice_bench MEASUREMENT: prints figures of this machine.
+  copy     a window of 16 KiB out of frames, against a plain copy of its bytes
+  turns    turns a second with 1, 2, 4 and 16 callers
+  parse    a script of 65,535 lines, against cutting its bytes into words
+  all      each of these
+";
+
+fn measure<R: Env + Print + Clock + AllocGlobal + Threads + Wait + Sync>(
+    rt: &R,
+    word: &str,
+) -> io::Result<()> {
+    let all = word == "all";
+    if all || word == "copy" {
+        copying::measure(rt)?;
+    }
+    if all || word == "turns" {
+        turning::measure(rt)?;
+    }
+    if all || word == "parse" {
+        parsing::measure(rt)?;
+    }
+    Ok(())
+}
+
+fn words<R: Env + AllocGlobal>(rt: &R) -> io::Result<Vec<String>> {
+    let mut words = Vec::new(rt.alloc());
+    for word in args(rt)?.skip(1) {
+        if words.push(word).is_err() {
+            return Err(io::Error::from(AllocError));
+        }
+    }
+    Ok(words)
+}
+
+fn main(rt: HostRuntime) -> io::Result<()> {
+    let words = words(&rt)?;
+    let [word] = words.as_slice() else {
+        return print!(rt; "{MEASUREMENTS}");
+    };
+    measure(&rt, word.as_str())
+}

@@ -1,0 +1,6 @@
+pub mod BitLemmas
+pub mod Places
+pub mod SoundLemmas
+pub mod TakeLemmas
+pub mod DropLemmas
+pub mod MoveLemmas

@@ -1,0 +1,4 @@
+pub mod Bits
+pub mod Holders
+pub mod Place
+pub mod Sound

@@ -1,0 +1,14 @@
+pub mod Segments
+pub mod Slices
+pub mod Fronts
+pub mod Newer
+pub mod Listing
+pub mod Relations
+pub mod Moves
+pub mod Filling
+pub mod Steps
+pub mod Commits
+pub mod Whole
+pub mod Writing
+pub mod Beyond
+pub mod Doubts
