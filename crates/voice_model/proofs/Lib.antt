@@ -34,3 +34,6 @@ pub mod BaseFiles
 pub mod BaseReadAgain
 pub mod BaseSpelled
 pub mod BaseSize
+pub mod RowsOfSweeps
+pub mod RowsOfLimits
+pub mod RowsOfMail
