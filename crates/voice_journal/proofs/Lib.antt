@@ -1,3 +1,4 @@
+pub mod Digits
 pub mod Segments
 pub mod Slices
 pub mod Fronts
@@ -10,5 +11,9 @@ pub mod Steps
 pub mod Commits
 pub mod Whole
 pub mod Writing
+pub mod Choosing
+pub mod Stepping
+pub mod Areas
 pub mod Beyond
+pub mod ShapesRead
 pub mod Doubts

@@ -4,4 +4,8 @@ pub mod Readings
 pub mod Spelled
 pub mod Places
 pub mod Stands
+pub mod Looks
+pub mod Parsed
+pub mod Records
+pub mod Opens
 pub mod Laws

@@ -1,11 +1,18 @@
-//! Payloads for an area.
+//! Payloads, with their places and without.
 
-ghost use Rattle.std.specs.Prelude.{◌≡◌, ◌+◌, ◌<◌, ◌≤◌, ◌^◌, ◌++◌, ◌∷◌, [], ℕ, List, length, map, OnOk, OnErr, MatchOption, slice_get, Some, None};
+ghost use Rattle.std.specs.Prelude.{◌≡◌, ◌+◌, ◌<◌, ◌≤◌, ◌^◌, ◌++◌, ◌∷◌, [], ℕ, List, length, OnOk, OnErr, MatchOption, slice_get, Some, None};
 ghost use Rattle.voice_journal.specs.Readings.{framed_size, views};
 
 use std::alloc::Global;
 use std::marker::Model;
 use voice_units::NoMemory;
+
+/// A record's payload, and the byte of the disk at which its gate stands.
+#[derive(Drop)]
+pub struct Placed {
+    pub place: u64,
+    pub bytes: Vec<u8>,
+}
 
 /// Payloads for an area. Contracts see the list of their bytes.
 #[derive(Drop)]
@@ -60,5 +67,15 @@ impl Payloads {
         ensures { views result.now ≡ self.now }
     {
         &self.items
+    }
+
+    /// The payload of this index, counted from 0; `None` exactly where there are not so many.
+    pub fn get(&self, k: u32) -> Option<&[u8]>
+        ensures { MatchOption result (slice_get self.now k ≡ None) (λ bytes. slice_get self.now k ≡ Some bytes.now) }
+    {
+        match self.items.get(k as usize) {
+            Some(bytes) => Some(bytes),
+            None => None,
+        }
     }
 }

@@ -1,0 +1,218 @@
+-- Rows are found by class and key.
+use Rattle.std.proofs.Common.{◌≡◌, ℕ, ◌<◌, List, [], ◌∷◌, map, ap, ap₂, ◌∙◌, sym, refl, cond, Bool, true, false, ◌&&◌, ◌==◌, Option, Some, None, subst, eq-eqb, eqb, ◌-◌, ◌++◌, length, take, replicate, ◌+◌, ◌≤◌, suc, arith}
+use Rattle.std.proofs.lemmas.Bool.{eqb-true}
+use Rattle.std.specs.Prelude.{bytes_eq, not, filter}
+use lib.Pointwise.{pointwise}
+use Rattle.std.proofs.Math.Seq.{take-append_seam}
+use Rattle.std.specs.Map.{lookup, remove_entry}
+use Rattle.std.specs.Cmp.Lexicographic.{same_text}
+use Rattle.std.proofs.lemmas.Cmp.{nat_list_eq_equiv}
+use Rattle.voice_model.specs.State.{class_number, is_row, row_at}
+use Rattle.voice_model.specs.declared.calls.Row.{Row}
+use Rattle.voice_model.specs.declared.calls.Class.{Class}
+use Rattle.voice_model.specs.declared.calls.Class.TheVariants.{Held, Until, Listed}
+use Rattle.interest_table.specs.declared.rows.RowName.{RowName}
+use Rattle.interest_table.specs.contracts.rows.RowNamePartialEq.TheImpl as eq_impl
+use Rattle.voice_model.specs.contracts.texts.KeyPartialEq.TheImpl as key_impl
+use Rattle.std.specs.List.{list_any}
+use Rattle.std.specs.Prelude.{unwrap_or, nat_eq, is_ok, OnOk, Result, Ok, Err}
+use Rattle.std.proofs.Common.{◌^◌}
+use Rattle.indexmap.specs.IndexMap as index
+use Rattle.voice_model.specs.Valid.{Once}
+use Rattle.interest_table.specs.Table.{rows_of}
+use Rattle.interest_table.specs.Inside.{row_in, name_of, AreNamed, IsTable, rows_counted}
+
+-- the comparison of names, as derived
+abbrev pub same_name : RowName → RowName → Bool
+same_name = (eq_impl.ghosts).eq
+
+pub both_ways : (a b : Bool) → (a ≡ true → b ≡ true) → (b ≡ true → a ≡ true) → a ≡ b
+both_ways true b f g = sym (f refl)
+both_ways false true f g = g refl
+both_ways false false f g = refl
+
+and_parts : (p q : Bool) → (p && q) ≡ true → (p ≡ true) × (q ≡ true)
+and_parts true q h = (refl, h)
+and_parts false q h = cc
+
+-- keys in place are equal where their bytes are
+same_keys : (x y : List ℕ) → (pointwise eqb (x ++ replicate (64 - length x) 0) (y ++ replicate (64 - length y) 0) && eqb (length x) (length y)) ≡ bytes_eq y x
+same_keys x y = both_ways _ _
+    (λ h.
+    let parts = and_parts _ _ h in
+    let long : length x ≡ length y = eqb-true (length x) (length y) parts.1 in
+    let all : x ++ replicate (64 - length x) 0 ≡ y ++ replicate (64 - length y) 0 = same_text _ _ (sym parts.0) in
+    let same : x ≡ y = sym (take-append_seam x (replicate (64 - length x) 0)) ∙ ap (take (length x)) all ∙ ap (λ n. take n (y ++ replicate (64 - length y) 0)) long ∙ take-append_seam y (replicate (64 - length y) 0) in
+    ap (bytes_eq y) same ∙ nat_list_eq_equiv.refl y)
+    (λ h.
+    let same : y ≡ x = same_text y x (sym h) in
+    let whole : (pointwise eqb (x ++ replicate (64 - length x) 0) (x ++ replicate (64 - length x) 0) && eqb (length x) (length x)) ≡ true = ap₂ (λ a b. a && b) (nat_list_eq_equiv.refl (x ++ replicate (64 - length x) 0)) (eq-eqb (length x) (length x) refl) in
+    ap (λ l. pointwise eqb (x ++ replicate (64 - length x) 0) (l ++ replicate (64 - length l) 0) && eqb (length x) (length l)) same ∙ whole)
+
+turned : (x y : List ℕ) → bytes_eq y x ≡ bytes_eq x y
+turned x y = both_ways _ _
+    (λ h. let same : y ≡ x = same_text y x (sym h) in ap (bytes_eq x) same ∙ nat_list_eq_equiv.refl x)
+    (λ h. let same : x ≡ y = same_text x y (sym h) in ap (bytes_eq y) same ∙ nat_list_eq_equiv.refl y)
+
+-- the comparison of keys, as derived
+abbrev pub same_key : List ℕ → List ℕ → Bool
+same_key = (key_impl.ghosts).eq
+
+-- a key equal to this one is in the list exactly where its bytes are
+pub any_same_key : (key : List ℕ) (keys : List (List ℕ)) → list_any (same_key key) keys ≡ list_any (bytes_eq key) keys
+any_same_key key keys = λ i. list_any (λ other. (same_keys key other ∙ turned key other) i) keys
+
+same_names : (a b : Class) (x y : List ℕ) → same_name (record { class = a; key = x }) (record { class = b; key = y }) ≡ ((class_number b == class_number a) && bytes_eq y x)
+same_names Held Held x y = same_keys x y
+same_names Held Until x y = refl
+same_names Held Listed x y = refl
+same_names Until Held x y = refl
+same_names Until Until x y = same_keys x y
+same_names Until Listed x y = refl
+same_names Listed Held x y = refl
+same_names Listed Until x y = refl
+same_names Listed Listed x y = same_keys x y
+
+pub tested : (class : Class) (key : List ℕ) (row : Row) → same_name (record { class = class; key = key }) (name_of row) ≡ is_row class key row
+tested class key row = same_names class row.class key row.key
+
+pub lookup_is : (test : RowName → Bool) (class : Class) (key : List ℕ) → ((row : Row) → test (name_of row) ≡ is_row class key row) → (es : List (RowName × Row)) → AreNamed es → lookup test es ≡ row_at (map row_in es) class key
+lookup_is test class key agree [] h = refl
+lookup_is test class key agree (e ∷ es) h =
+    ap (λ b. cond b (Some e.1) (lookup test es)) (ap test h.0 ∙ agree e.1) ∙ ap (λ o. cond (is_row class key e.1) (Some e.1) o) (lookup_is test class key agree es h.1)
+
+pub still_table : {S H : Type 0} (rows new : index.IndexMap RowName Row S) (counts counted : index.IndexMap ℕ ℕ H) → IsTable rows counts → new.entries ≡ rows.entries → counted.entries ≡ counts.entries → IsTable new counted
+still_table rows new counts counted h e f = record {
+  named = subst AreNamed (sym e) h.named;
+  once = subst (λ es. Once (map row_in es)) (sym e) h.once;
+  counted = λ rope. ap (λ es. unwrap_or (lookup (nat_eq rope) es) 0) f ∙ h.counted rope ∙ ap (λ es. rows_of rope (map row_in es)) (sym e);
+  few = subst (λ es. length es < 2 ^ 32) (sym e) h.few;
+}
+
+-- ---- a row goes
+
+same_class : (a b : Class) → (class_number a == class_number b) ≡ true → a ≡ b
+same_class Held Held h = refl
+same_class Held Until h = cc
+same_class Held Listed h = cc
+same_class Until Held h = cc
+same_class Until Until h = refl
+same_class Until Listed h = cc
+same_class Listed Held h = cc
+same_class Listed Until h = cc
+same_class Listed Listed h = refl
+
+-- the rows that do not stand under a class and key
+abbrev pub others : Class → List ℕ → List Row → List Row
+others class key rows = filter (λ row. not (is_row class key row)) rows
+
+stay : (class : Class) (key : List ℕ) (row : Row) (rows : List Row) (b : Bool) → (row_at rows class key ≡ None → others class key rows ≡ rows) → cond b (Some row) (row_at rows class key) ≡ None → cond (not b) (row ∷ others class key rows) (others class key rows) ≡ row ∷ rows
+stay class key row rows true rest e = cc
+stay class key row rows false rest e = ap (λ l. row ∷ l) (rest e)
+
+-- where no row stands there, all stay
+pub all_stay : (class : Class) (key : List ℕ) (rows : List Row) → row_at rows class key ≡ None → others class key rows ≡ rows
+all_stay class key [] h = refl
+all_stay class key (row ∷ rows) h = stay class key row rows (is_row class key row) (all_stay class key rows) h
+
+-- a row of this class and key has them
+pub is_that_row : (class : Class) (key : List ℕ) (row : Row) → is_row class key row ≡ true → (row.class ≡ class) × (row.key ≡ key)
+is_that_row class key row h = let parts = and_parts _ _ h in (same_class row.class class parts.0, same_text row.key key (sym parts.1))
+
+one_removed : (test : RowName → Bool) (class : Class) (key : List ℕ) (e : RowName × Row) (es : List (RowName × Row)) (a b : Bool) → a ≡ b → is_row class key e.1 ≡ b → Once (map row_in (e ∷ es)) → map row_in (remove_entry test es) ≡ others class key (map row_in es) → map row_in (cond a es (e ∷ remove_entry test es)) ≡ cond (not b) (e.1 ∷ others class key (map row_in es)) (others class key (map row_in es))
+one_removed test class key e es true true s is once rest =
+    let that = is_that_row class key e.1 is in
+    sym (all_stay class key (map row_in es) (sym (ap₂ (λ c k. row_at (map row_in es) c k) that.0 that.1) ∙ once.0))
+one_removed test class key e es false false s is once rest = ap (λ l. e.1 ∷ l) rest
+one_removed test class key e es true false s is once rest = cc
+one_removed test class key e es false true s is once rest = cc
+
+-- taking out the first entry of a name takes out all rows of it
+pub remove_is : (test : RowName → Bool) (class : Class) (key : List ℕ) → ((row : Row) → test (name_of row) ≡ is_row class key row) → (es : List (RowName × Row)) → AreNamed es → Once (map row_in es) → map row_in (remove_entry test es) ≡ others class key (map row_in es)
+remove_is test class key agree [] h once = refl
+remove_is test class key agree (e ∷ es) h once =
+    one_removed test class key e es (test e.0) (is_row class key e.1) (ap test h.0 ∙ agree e.1) refl once (remove_is test class key agree es h.1 once.1)
+
+-- ---- how many rows a rope has
+
+pub on_ok_true : {T E P : Type 0} (r : Result T E) → is_ok r ≡ true → OnOk r P → P
+on_ok_true (Ok x) e p = p
+on_ok_true (Err x) e p = cc
+
+one_less : (b : Bool) (now was rope other count : ℕ) → (b ≡ true → was ≡ count) → now ≡ cond b (count - 1) was → now ≡ cond b (was - 1) was
+one_less true now was rope other count same e = e ∙ ap (λ n. n - 1) (sym (same refl))
+one_less false now was rope other count same e = e
+
+pub or_none : (b : Bool) (w : ℕ) (o : Option ℕ) → unwrap_or (cond b (Some w) o) 0 ≡ cond b w (unwrap_or o 0)
+or_none true w o = refl
+or_none false w o = refl
+
+pub one_row_less : {H : Type 0} (old new : index.IndexMap ℕ ℕ H) (rope count other : ℕ) → index.get nat_eq old rope ≡ Some count → index.get nat_eq new other ≡ cond (nat_eq rope other) (Some (count - 1)) (index.get nat_eq old other) → rows_counted new other ≡ cond (rope == other) (rows_counted old other - 1) (rows_counted old other)
+one_row_less old new rope count other was e =
+    one_less (rope == other) (rows_counted new other) (rows_counted old other) rope other count
+    (λ t. let same : rope ≡ other = eqb-true rope other t in ap (λ k. unwrap_or (index.get nat_eq old k) 0) (sym same) ∙ ap (λ o. unwrap_or o 0) was)
+    (ap (λ o. unwrap_or o 0) e ∙ or_none (rope == other) (count - 1) (index.get nat_eq old other))
+
+one_of_them : (class : Class) (key : List ℕ) (rope : ℕ) (r row : Row) (rows : List Row) (b : Bool) → is_row class key r ≡ b → cond b (Some r) (row_at rows class key) ≡ Some row → row_at rows r.class r.key ≡ None → (row_at rows class key ≡ Some row → rows_of rope rows ≡ cond (row.rope == rope) 1 0 + rows_of rope (others class key rows)) → cond (r.rope == rope) 1 0 + rows_of rope rows ≡ cond (row.rope == rope) 1 0 + rows_of rope (cond (not b) (r ∷ others class key rows) (others class key rows))
+one_of_them class key rope r row rows true is at none rest =
+    let that = is_that_row class key r is in
+    let same : r ≡ row = cc in
+    ap₂ (λ x ys. cond (x == rope) 1 0 + rows_of rope ys) (ap (λ (x : Row). x.rope) same) (sym (all_stay class key rows (sym (ap₂ (λ c k. row_at rows c k) that.0 that.1) ∙ none)))
+one_of_them class key rope r row rows false is at none rest =
+    let more = rest at in
+    omega (arith, more)
+
+-- a row that goes is one row less of its rope
+pub rows_of-others : (class : Class) (key : List ℕ) (rope : ℕ) (row : Row) (rows : List Row) → row_at rows class key ≡ Some row → Once rows → rows_of rope rows ≡ cond (row.rope == rope) 1 0 + rows_of rope (others class key rows)
+rows_of-others class key rope row [] h once = cc
+rows_of-others class key rope row (r ∷ rows) h once = one_of_them class key rope r row rows (is_row class key r) refl h once.0 (λ at. rows_of-others class key rope row rows at once.1)
+
+none_either : (class : Class) (key : List ℕ) (c : Class) (k : List ℕ) (r : Row) (rows : List Row) (a b : Bool) → is_row c k r ≡ a → cond a (Some r) (row_at rows c k) ≡ None → (row_at rows c k ≡ None → row_at (others class key rows) c k ≡ None) → row_at (cond (not b) (r ∷ others class key rows) (others class key rows)) c k ≡ None
+none_either class key c k r rows true b is at rest = cc
+none_either class key c k r rows false true is at rest = rest at
+none_either class key c k r rows false false is at rest = ap (λ x. cond x (Some r) (row_at (others class key rows) c k)) is ∙ rest at
+
+-- where no row stands, none does once others went
+none_after : (class : Class) (key : List ℕ) (c : Class) (k : List ℕ) (rows : List Row) → row_at rows c k ≡ None → row_at (others class key rows) c k ≡ None
+none_after class key c k [] h = refl
+none_after class key c k (r ∷ rows) h = none_either class key c k r rows (is_row c k r) (is_row class key r) refl h (none_after class key c k rows)
+
+once_either : (class : Class) (key : List ℕ) (r : Row) (rows : List Row) (b : Bool) → row_at (others class key rows) r.class r.key ≡ None → Once (others class key rows) → Once (cond (not b) (r ∷ others class key rows) (others class key rows))
+once_either class key r rows true none rest = rest
+once_either class key r rows false none rest = (none, rest)
+
+pub once_after : (class : Class) (key : List ℕ) (rows : List Row) → Once rows → Once (others class key rows)
+once_after class key [] h = tt
+once_after class key (r ∷ rows) h = once_either class key r rows (is_row class key r) (none_after class key r.class r.key rows h.0) (once_after class key rows h.1)
+
+named_either : (b : Bool) (xs ys : List (RowName × Row)) → AreNamed xs → AreNamed ys → AreNamed (cond b xs ys)
+named_either true xs ys p q = p
+named_either false xs ys p q = q
+
+pub named_after : (test : RowName → Bool) (es : List (RowName × Row)) → AreNamed es → AreNamed (remove_entry test es)
+named_after test [] h = h
+named_after test (e ∷ es) h = named_either (test e.0) es (e ∷ remove_entry test es) h.1 (h.0, named_after test es h.1)
+
+fewer_either : {X : Type 0} (b : Bool) (xs ys : List X) (n : ℕ) → length xs ≤ n → length ys ≤ n → length (cond b xs ys) ≤ n
+fewer_either true xs ys n p q = p
+fewer_either false xs ys n p q = q
+
+pub fewer_after : (test : RowName → Bool) (es : List (RowName × Row)) → length (remove_entry test es) ≤ length es
+fewer_after test [] = omega arith
+fewer_after test (e ∷ es) = let rest = fewer_after test es in fewer_either (test e.0) es (e ∷ remove_entry test es) (suc (length es)) (omega arith) (omega (arith, rest))
+
+counted_either : (b : Bool) (before after was now rope other : ℕ) → before ≡ cond b 1 0 + after → was ≡ before → now ≡ cond b (was - 1) was → now ≡ after
+counted_either true before after was now rope other e f g = omega (arith, e, f, g)
+counted_either false before after was now rope other e f g = omega (arith, e, f, g)
+
+-- the table after a row went
+pub one_row_gone : {S H : Type 0} (rows new : index.IndexMap RowName Row S) (counts counted : index.IndexMap ℕ ℕ H) (class : Class) (key : List ℕ) (row : Row) → IsTable rows counts → new.entries ≡ remove_entry (same_name (record { class = class; key = key })) rows.entries → row_at (map row_in rows.entries) class key ≡ Some row → ((other : ℕ) → rows_counted counted other ≡ cond (row.rope == other) (rows_counted counts other - 1) (rows_counted counts other)) → IsTable new counted
+one_row_gone rows new counts counted class key row h is at less =
+    let test = same_name (record { class = class; key = key }) in
+    let left : map row_in new.entries ≡ others class key (map row_in rows.entries) = ap (map row_in) is ∙ remove_is test class key (tested class key) rows.entries h.named h.once in
+    record {
+      named = subst AreNamed (sym is) (named_after test rows.entries h.named);
+      once = subst Once (sym left) (once_after class key (map row_in rows.entries) h.once);
+      counted = λ rope. counted_either (row.rope == rope) (rows_of rope (map row_in rows.entries)) (rows_of rope (others class key (map row_in rows.entries))) (rows_counted counts rope) (rows_counted counted rope) rope rope (rows_of-others class key rope row (map row_in rows.entries) at h.once) (h.counted rope) (less rope) ∙ ap (rows_of rope) (sym left);
+      few = let fewer = fewer_after test rows.entries in let same = ap (λ es. length es) is in omega (arith, fewer, same, h.few);
+    }

@@ -1,0 +1,7 @@
+mod Lanes
+mod Greatest
+mod Windows
+mod LevelsHeard
+mod Pieces
+mod TalkAfter
+mod Scanned

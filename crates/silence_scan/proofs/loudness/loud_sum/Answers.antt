@@ -1,0 +1,16 @@
+use Rattle.std.proofs.Common.{◌∙◌, ◌+◌, ◌≡◌, take, sum_by, arith}
+use Rattle.voice_model.specs.Talk.{loud}
+use Rattle.silence_scan.proofs.Lanes.{more, below, ranged}
+use Rattle.silence_scan.proofs.loudness.loud_sum.Goals as goal
+
+pub overflow_add-total : goal.overflow_add-total
+overflow_add-total c =
+    let sum : c.whole.total + c.from-total.result ≡ sum_by loud (take (c.whole.at + 32) c.args.bytes.now) = more c.args.bytes.now c.whole.at 32 _ _ c.whole.invariant.1 (c.from-total.ensures ∙ (c.block_loud.ensures ∙ ranged c.args.bytes.now c.whole.at 32)) in
+    record { fits = omega (arith, sum, below c.args.bytes.now (c.whole.at + 32) c.requires) }
+
+pub whole-preserved : goal.whole-preserved
+whole-preserved c = (omega arith, more c.args.bytes.now c.whole.at 32 _ _ c.whole.invariant.1 (c.from-total.ensures ∙ (c.block_loud.ensures ∙ ranged c.args.bytes.now c.whole.at 32)))
+
+pub overflow_add-total-in-ends : goal.overflow_add-total-in-ends
+overflow_add-total-in-ends c =
+    record { fits = omega (arith, c.ends.invariant.1, below c.args.bytes.now c.ends.at c.requires, c.from-total-in-ends.ensures, c.byte_loud.type_inv) }

@@ -1,0 +1,6 @@
+use Rattle.std.specs.Prelude.{ℕ, List, [], ◌∷◌, max}
+
+-- the greatest of some numbers, or 0 of none
+abbrev pub greatest : List ℕ → ℕ
+greatest [] = 0
+greatest (x ∷ xs) = max x (greatest xs)
