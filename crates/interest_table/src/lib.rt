@@ -5,3 +5,6 @@ mod rows;
 
 pub use rows::{AddError, InterestTable};
 pub use voice_model::Row;
+
+#[cfg(test)]
+mod tests;

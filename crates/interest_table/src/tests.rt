@@ -1,0 +1,156 @@
+//! A table of interests through a day: what stands, what is obsolete, and in which order.
+
+use super::{AddError, InterestTable};
+use std::alloc::Global;
+use std::test::Fail;
+use voice_model::{Class, Key, KeyList, Note, Row};
+use voice_units::{Moment, NoMemory, RopeId, TextError};
+
+const TAKEN: u64 = 777;
+
+// Where a call is refused for another reason than that its row stands.
+const REFUSED: u64 = 999;
+
+// 0 where the row comes, TAKEN where its class and key stand, or REFUSED.
+fn add(table: &mut InterestTable, class: Class, key: &[u8], rope: u32, note: &[u8]) -> u64 {
+    let Ok(key) = Key::new(key) else {
+        return REFUSED;
+    };
+    let Ok(note) = Note::new(note) else {
+        return REFUSED;
+    };
+    let rope = RopeId(u64::from(rope));
+    if table.is_full() {
+        return REFUSED;
+    }
+    let row = Row {
+        class,
+        key,
+        rope,
+        note,
+    };
+    match table.add(row) {
+        Ok(()) => 0,
+        Err(AddError::Taken(_)) => TAKEN,
+        Err(AddError::NoMemory) => REFUSED,
+    }
+}
+
+// The rope of the row that goes, or 0.
+fn remove(table: &mut InterestTable, class: Class, key: &[u8]) -> u64 {
+    let Ok(key) = Key::new(key) else {
+        return REFUSED;
+    };
+    let Some(row) = table.remove(class, &key) else {
+        return 0;
+    };
+    row.rope.0
+}
+
+// The rope of the row that stands, or 0.
+fn find(table: &InterestTable, class: Class, key: &[u8]) -> u64 {
+    let Ok(key) = Key::new(key) else {
+        return REFUSED;
+    };
+    let Some(row) = table.find(class, &key) else {
+        return 0;
+    };
+    row.rope.0
+}
+
+// The rope of the k-th row, or 0.
+fn rope_at(table: &InterestTable, k: u32) -> u64 {
+    let Some(row) = table.row(k) else {
+        return 0;
+    };
+    row.rope.0
+}
+
+// How many keys there are, and the first letter of the last one.
+fn shape_of(keys: &KeyList) -> (usize, u8) {
+    let Some(key) = keys.items().last() else {
+        return (0, 0);
+    };
+    let letter = key.bytes().first().copied().unwrap_or(0);
+    (keys.items().len(), letter)
+}
+
+fn expired(table: &InterestTable, moment: u64) -> Result<(usize, u8), NoMemory> {
+    let Some(moment) = Moment::new(moment) else {
+        return Err(NoMemory);
+    };
+    Ok(shape_of(&table.obsolete_until(moment)?))
+}
+
+// What a census drops that names the one key, or none.
+fn unlisted(alloc: Global, table: &InterestTable, key: &[u8]) -> Result<(usize, u8), TextError> {
+    let mut named = Vec::new(alloc);
+    if !key.is_empty() && named.push(Key::new(key)?).is_err() {
+        return Err(TextError::NoMemory);
+    }
+    match table.obsolete_listed(&KeyList::of(named)) {
+        Ok(keys) => Ok(shape_of(&keys)),
+        Err(NoMemory) => Err(TextError::NoMemory),
+    }
+}
+
+// Three rows come, a fourth is refused, one goes: what each call answers, and what stands then.
+fn answers_in_order(table: &mut InterestTable) -> [u64; 8] {
+    let held = add(table, Class::Held, b"k", 1, b"");
+    let listed = add(table, Class::Listed, b"k", 2, b"");
+    let taken = add(table, Class::Held, b"k", 2, b"hi");
+    let another = add(table, Class::Held, b"m", 1, b"hi");
+    let gone = remove(table, Class::Held, b"k");
+    let again = remove(table, Class::Held, b"k");
+    let found = find(table, Class::Held, b"m");
+    let other = find(table, Class::Until, b"m");
+    [held, listed, taken, another, gone, again, found, other]
+}
+
+fn ropes_of(table: &InterestTable) -> [u64; 4] {
+    [
+        rope_at(table, 0),
+        rope_at(table, 1),
+        rope_at(table, 2),
+        u64::from(table.count(RopeId(1))),
+    ]
+}
+
+#[test]
+fn rows_stand_in_order(rt: HostRuntime) -> Result<(), Fail> {
+    let mut table = InterestTable::new(rt.alloc());
+    let answers = answers_in_order(&mut table);
+    assert_eq!(rt; answers, [0, 0, TAKEN, 0, 1, 0, 1, 0]);
+    assert_eq!(rt; ropes_of(&table), [2, 1, 0, 1]);
+    let copy = table.copy()?;
+    assert_eq!(rt; ropes_of(&copy), [2, 1, 0, 1]);
+    Ok(())
+}
+
+fn fill(table: &mut InterestTable) -> u64 {
+    let mut refused = add(table, Class::Until, b"u", 1, &[0, 0, 0, 0, 0, 0, 0, 30]);
+    refused |= add(table, Class::Listed, b"m", 2, b"");
+    refused |= add(table, Class::Until, b"v", 1, &[0, 0, 0, 0, 0, 0, 1, 0]);
+    refused |= add(table, Class::Listed, b"n", 2, b"");
+    refused |= add(table, Class::Held, b"h", 2, &[0, 0, 0, 0, 0, 0, 0, 1]);
+    refused
+}
+
+// A row of class Until goes at its moment; one of class Listed where no census names it; one of class Held never.
+#[test]
+fn obsolete_rows(rt: HostRuntime) -> Result<(), Fail> {
+    let mut table = InterestTable::new(rt.alloc());
+    table.reserve(5)?;
+    assert_eq!(rt; fill(&mut table), 0);
+    for (moment, wanted) in [
+        (29, (0, 0)),
+        (30, (1, b'u')),
+        (255, (1, b'u')),
+        (256, (2, b'v')),
+    ] {
+        assert_eq!(rt; expired(&table, moment)?, wanted);
+    }
+    assert_eq!(rt; unlisted(rt.alloc(), &table, b"n")?, (1, b'm'));
+    assert_eq!(rt; unlisted(rt.alloc(), &table, b"")?, (2, b'n'));
+    Ok(())
+}
