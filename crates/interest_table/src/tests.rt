@@ -4,7 +4,7 @@ use super::{AddError, InterestTable};
 use std::alloc::Global;
 use std::test::Fail;
 use voice_model::{Class, Key, KeyList, Note, Row};
-use voice_units::{Moment, NoMemory, RopeId, TextError};
+use voice_units::{Moment, NoMemory, RopeId};
 
 const TAKEN: u64 = 777;
 
@@ -66,32 +66,27 @@ fn rope_at(table: &InterestTable, k: u32) -> u64 {
     row.rope.0
 }
 
-// How many keys there are, and the first letter of the last one.
-fn shape_of(keys: &KeyList) -> (usize, u8) {
-    let Some(key) = keys.items().last() else {
-        return (0, 0);
-    };
-    let letter = key.bytes().first().copied().unwrap_or(0);
-    (keys.items().len(), letter)
+// How many rows are expired at a moment.
+fn expired(table: &InterestTable, moment: u32) -> Result<usize, NoMemory> {
+    let keys = table.obsolete_until(Moment(u64::from(moment)))?;
+    Ok(keys.items().len())
 }
 
-fn expired(table: &InterestTable, moment: u64) -> Result<(usize, u8), NoMemory> {
-    let Some(moment) = Moment::new(moment) else {
-        return Err(NoMemory);
-    };
-    Ok(shape_of(&table.obsolete_until(moment)?))
+fn expiries(table: &InterestTable) -> Result<[usize; 4], NoMemory> {
+    Ok([
+        expired(table, 29)?,
+        expired(table, 30)?,
+        expired(table, 255)?,
+        expired(table, 256)?,
+    ])
 }
 
-// What a census drops that names the one key, or none.
-fn unlisted(alloc: Global, table: &InterestTable, key: &[u8]) -> Result<(usize, u8), TextError> {
+// How many rows a census drops that names this key alone.
+fn unlisted(alloc: Global, table: &InterestTable, key: Key) -> Result<usize, NoMemory> {
     let mut named = Vec::new(alloc);
-    if !key.is_empty() && named.push(Key::new(key)?).is_err() {
-        return Err(TextError::NoMemory);
-    }
-    match table.obsolete_listed(&KeyList::of(named)) {
-        Ok(keys) => Ok(shape_of(&keys)),
-        Err(NoMemory) => Err(TextError::NoMemory),
-    }
+    named.push(key)?;
+    let keys = table.obsolete_listed(&KeyList::of(named))?;
+    Ok(keys.items().len())
 }
 
 // Three rows come, a fourth is refused, one goes: what each call answers, and what stands then.
@@ -142,15 +137,8 @@ fn obsolete_rows(rt: HostRuntime) -> Result<(), Fail> {
     let mut table = InterestTable::new(rt.alloc());
     table.reserve(5)?;
     assert_eq!(rt; fill(&mut table), 0);
-    for (moment, wanted) in [
-        (29, (0, 0)),
-        (30, (1, b'u')),
-        (255, (1, b'u')),
-        (256, (2, b'v')),
-    ] {
-        assert_eq!(rt; expired(&table, moment)?, wanted);
-    }
-    assert_eq!(rt; unlisted(rt.alloc(), &table, b"n")?, (1, b'm'));
-    assert_eq!(rt; unlisted(rt.alloc(), &table, b"")?, (2, b'n'));
+    assert_eq!(rt; expiries(&table)?, [0, 1, 1, 2]);
+    assert_eq!(rt; unlisted(rt.alloc(), &table, Key::new(b"n")?)?, 1);
+    assert_eq!(rt; unlisted(rt.alloc(), &table, Key::new(b"h")?)?, 2);
     Ok(())
 }
