@@ -9,11 +9,11 @@ use Rattle.std.specs.Prelude.{bit_and}
 use Rattle.voice_blocks.specs.declared.owner.Owner.{Owner}
 use Rattle.voice_blocks.specs.declared.owner.Owner.TheVariants.{File, Taking}
 use Rattle.voice_blocks.specs.declared.owner.Holder.{Holder}
-use Rattle.voice_blocks.specs.Holders.{Holders, holder_at, block_of, same_owner, same_holder, renamed, renamed_block}
+use Rattle.voice_blocks.specs.Holders.{Holders, EachBecomes, holder_at, block_of, same_owner, same_holder, renamed, renamed_block}
 use Rattle.voice_blocks.specs.Sound.{IsSound, holder_eq, of_taking, bit_for}
 use Rattle.voice_blocks.proofs.BitLemmas.{bit_of-remove_same, bit_of-remove_other}
 use Rattle.voice_blocks.proofs.SoundLemmas.{entered, left, by_eq}
-use Rattle.voice_blocks.proofs.TakeLemmas.{owner_is}
+use Rattle.voice_blocks.proofs.TakeLemmas.{owner_is, owner_refl}
 
 set_twice : (hs : Holders) (a : ℕ) (u v : Option Holder) → set (set hs a u) a v ≡ set hs a v
 set_twice [] a u v = refl
@@ -105,3 +105,21 @@ renamed-new lane file i (Some h) new is = by_eq (same_owner (Taking lane) h.owne
     last : (a b : Bool) → (a && b) ≡ true → b ≡ true
     last true b h = h
     last false b h = cc
+
+-- no block of a recording is left
+renamed-none_left : (lane file index : ℕ) (v : Option Holder) → renamed lane file v ≢ Some (block_of (Taking lane) index)
+renamed-none_left lane file index None is = cc
+renamed-none_left lane file index (Some h) is = by_eq (same_owner (Taking lane) h.owner)
+    (λ hit. let moved_on : Some (block_of (File file) h.index) ≡ Some (block_of (Taking lane) index) = ap (λ t. cond t (Some (block_of (File file) h.index)) (Some h)) (sym hit) ∙ is in
+    let clash : File file ≡ Taking lane = ap owner_in moved_on in cc)
+    (λ miss. let stays : Some h ≡ Some (block_of (Taking lane) index) = ap (λ t. cond t (Some (block_of (File file) h.index)) (Some h)) (sym miss) ∙ is in
+    let one : h ≡ block_of (Taking lane) index = cc in
+    let clash : true ≡ false = sym (owner_refl (Taking lane)) ∙ ap (λ x. same_owner (Taking lane) x.owner) (sym one) ∙ miss in cc)
+  where
+    owner_in : Option Holder → Owner
+    owner_in None = File 0
+    owner_in (Some h) = h.owner
+
+pub none_renamed : (lane file end : ℕ) (old new : Holders) → EachBecomes (renamed_below lane file end) old new → ((a index : ℕ) → holder_at old a ≡ Some (block_of (Taking lane) index) → index < end)
+    → (a index : ℕ) → holder_at new a ≢ Some (block_of (Taking lane) index)
+none_renamed lane file end old new each bound a index held = renamed-none_left lane file index (holder_at old a) (sym (renamed-all lane file end (holder_at old a) (λ i is. bound a i is)) ∙ sym (each.each a) ∙ held)

@@ -32,7 +32,7 @@ owner_is (File a) (Taking b) h = cc
 owner_is (Taking a) (File b) h = cc
 owner_is (Taking a) (Taking b) h = ap Taking (eqb-true a b h)
 
-owner_refl : (p : Owner) → same_owner p p ≡ true
+pub owner_refl : (p : Owner) → same_owner p p ≡ true
 owner_refl (File a) = eq-eqb a a refl
 owner_refl (Taking a) = eq-eqb a a refl
 

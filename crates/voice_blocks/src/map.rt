@@ -241,7 +241,7 @@ impl BlockMap {
         }
     }
 
-    /// Drops an owner's blocks. It takes as many steps as the owner's greatest index.
+    /// Drops an owner's blocks. It takes as many steps as the greatest index that the owner has had.
     pub fn drop_owner(&mut self, owner: Owner)
         ensures holders { EachBecomes (without_owner owner) self.old.holders self.new.holders }
         ensures spare { self.new.spare ≡ self.old.spare }
@@ -254,6 +254,15 @@ impl BlockMap {
             };
             self.drop_held(&holder);
         }
+        self.forget_end(&owner);
+    }
+
+    // Forgets the bound on the indices of an owner that has no block.
+    fn forget_end(&mut self, owner: &Owner)
+        requires { (a index : ℕ) → holder_at self.old.holders a ≢ Some (block_of owner.now index) }
+        ensures { self.new ≡ self.old }
+    {
+        let _end = self.ends.remove(owner);
     }
 
     // Gives the address of a block of a recording to a file's block that has none.
@@ -285,7 +294,7 @@ impl BlockMap {
         }
     }
 
-    /// Gives the blocks of a lane's recording to a file that has none, each under the same index and address. It needs no memory, and takes as many steps as the recording's greatest index.
+    /// Gives the blocks of a lane's recording to a file that has none, each under the same index and address. It needs no memory, and takes as many steps as the greatest index that the recording has had.
     pub fn rename(&mut self, lane: Lane, file: RopeId)
         requires { (a index : ℕ) → holder_at self.old.holders a ≢ Some (block_of (Owner.File file) index) }
         ensures holders { EachBecomes (renamed lane file) self.old.holders self.new.holders }
@@ -303,6 +312,7 @@ impl BlockMap {
             };
             self.rename_held(&from, &to);
         }
+        self.forget_end(&Owner::Taking(lane));
     }
 
     /// Enters a block of a file under an address. False exactly where the address is taken or there is no such address, or the block has one.

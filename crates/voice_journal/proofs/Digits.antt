@@ -26,7 +26,8 @@ eight (a ∷ b ∷ c ∷ d ∷ e ∷ f ∷ []) h = absurd (omega arith)
 eight (a ∷ b ∷ c ∷ d ∷ e ∷ f ∷ g ∷ []) h = absurd (omega arith)
 eight (a ∷ b ∷ c ∷ d ∷ e ∷ f ∷ g ∷ i ∷ xs) h = omega arith
 
-take_all : (xs : List ℕ) (n : ℕ) → length xs ≡ n → take n xs ≡ xs
+-- a list is its own front
+pub take_all : (xs : List ℕ) (n : ℕ) → length xs ≡ n → take n xs ≡ xs
 take_all [] zero h = refl
 take_all [] (suc n) h = absurd (omega (arith, h))
 take_all (x ∷ xs) zero h = absurd (omega (arith, h))

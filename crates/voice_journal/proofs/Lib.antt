@@ -17,3 +17,5 @@ pub mod Areas
 pub mod Beyond
 pub mod ShapesRead
 pub mod Doubts
+pub mod Putting
+pub mod Formats

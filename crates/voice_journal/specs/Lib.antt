@@ -2,6 +2,7 @@ pub mod Numbers
 pub mod Image
 pub mod Readings
 pub mod Spelled
+pub mod Formatted
 pub mod Places
 pub mod Stands
 pub mod Looks

@@ -4,6 +4,7 @@
 mod appending;
 mod device;
 mod errors;
+mod formatting;
 mod gates;
 mod heads;
 pub mod laws;

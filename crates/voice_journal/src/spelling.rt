@@ -9,7 +9,7 @@ use crate::lists::Payloads;
 use byteorder::{BigEndian, ByteOrder};
 
 // Puts bytes over those that are there.
-fn put_at(bytes: &mut [u8], at: usize, from: &[u8])
+pub fn put_at(bytes: &mut [u8], at: usize, from: &[u8])
     requires { at + length from.now ≤ length bytes.old }
     ensures { take (at + length from.now) bytes.new ≡ take at bytes.old ++ from.now }
 {
@@ -17,9 +17,19 @@ fn put_at(bytes: &mut [u8], at: usize, from: &[u8])
     bytes[at..end].copy_from_slice(from);
 }
 
+// The two bytes of a number.
+pub fn two_bytes(n: u16) -> [u8; 2]
+    ensures { result ≡ number_bytes 2 n }
+{
+    let mut bytes = [0; 2];
+    BigEndian::write_u16(&mut bytes, n);
+    bytes
+}
+
 // The four bytes of a number.
-fn four_bytes(n: u32) -> [u8; 4]
-    ensures { result ≡ number_bytes 4 n }
+pub fn four_bytes(n: u32) -> [u8; 4]
+    ensures value { result ≡ number_bytes 4 n }
+    ensures fits { n < 2 ^ 32 }
 {
     let mut bytes = [0; 4];
     BigEndian::write_u32(&mut bytes, n);
@@ -27,7 +37,7 @@ fn four_bytes(n: u32) -> [u8; 4]
 }
 
 // The eight bytes of a number.
-fn eight_bytes(n: u64) -> [u8; 8]
+pub fn eight_bytes(n: u64) -> [u8; 8]
     ensures { result ≡ number_bytes 8 n }
 {
     let mut bytes = [0; 8];

@@ -1,12 +1,14 @@
-//! The superblock.
+//! Reads and spells the superblock.
 
-ghost use Rattle.std.specs.Prelude.{◌≡◌, ◌+◌, ◌≤◌, ℕ, List, length, MatchResult, IfOk, if◌then◌else◌, ◌==◌};
+ghost use Rattle.std.specs.Prelude.{◌≡◌, ◌+◌, ◌≤◌, ◌<◌, ◌^◌, ◌++◌, ℕ, List, length, take, replicate, cond, MatchResult, IfOk, if◌then◌else◌, ◌==◌};
 ghost use Rattle.std.specs.List.{list_all};
-ghost use Rattle.voice_journal.specs.Image.{graces_in, superblock_end};
+ghost use Rattle.voice_journal.specs.Image.{graces_in, superblock_end, superblock, graces_by_class};
 ghost use Rattle.voice_journal.specs.Readings.{extent};
 ghost use Rattle.voice_journal.specs.Parsed.{IsSuperblock, IsDamage};
+ghost use Rattle.voice_journal.specs.Spelled.{AreSpellable};
 
 use crate::numbers::{number_2, number_4};
+use crate::spelling::{four_bytes, put_at, two_bytes};
 use voice_units::{Graces, Shape};
 
 const MAGIC: [u8; 8] = [86, 79, 73, 67, 68, 73, 83, 75];
@@ -77,4 +79,47 @@ pub fn read_superblock(bytes: &[u8; 64], size: u64) -> Result<Shape, u64>
         return Err(end as u64);
     }
     Ok(shape)
+}
+
+// The graces of the classes.
+fn class_bytes(shape: &Shape) -> [u8; 12]
+    ensures value { result ≡ graces_by_class shape.now }
+    ensures spellable { shape.now.graces.common < 2 ^ 32 → AreSpellable shape.now.graces }
+{
+    let mut bytes = [0; 12];
+    put_at(&mut bytes, 0, &four_bytes(shape.graces.held));
+    put_at(&mut bytes, 4, &four_bytes(shape.graces.until));
+    put_at(&mut bytes, 8, &four_bytes(shape.graces.listed));
+    bytes
+}
+
+// What a superblock has behind its lanes.
+fn end_bytes(shape: &Shape) -> [u8; 34]
+    ensures value { result ≡ cond (shape.now.version == 1) (replicate 34 0) (graces_by_class shape.now ++ replicate 22 0) }
+    ensures spellable { shape.now.graces.common < 2 ^ 32 → AreSpellable shape.now.graces }
+{
+    let mut bytes = [0; 34];
+    let classes = class_bytes(shape);
+    if shape.version == 1 {
+        return bytes;
+    }
+    put_at(&mut bytes, 0, &classes);
+    put_at(&mut bytes, 12, &[0; 22]);
+    bytes
+}
+
+// Puts a superblock at the front.
+pub fn put_superblock(bytes: &mut [u8], shape: &Shape)
+    requires { 64 ≤ length bytes.old }
+    ensures value { take 64 bytes.new ≡ superblock shape.now }
+    ensures spellable { AreSpellable shape.now.graces }
+{
+    put_at(bytes, 0, &MAGIC);
+    put_at(bytes, 8, &four_bytes(shape.version));
+    put_at(bytes, 12, &four_bytes(shape.block));
+    put_at(bytes, 16, &four_bytes(shape.blocks));
+    put_at(bytes, 20, &four_bytes(shape.area));
+    put_at(bytes, 24, &four_bytes(shape.graces.common));
+    put_at(bytes, 28, &two_bytes(shape.lanes));
+    put_at(bytes, 30, &end_bytes(shape));
 }
