@@ -1,15 +1,15 @@
 -- The images that a choice picks.
-use Rattle.std.proofs.Common.{◌≡◌, inl, inr, ℕ, zero, suc, ◌+◌, ◌%◌, ◌<◌, ◌≤◌, List, [], ◌∷◌, length, get_or, take, reverse, Bool, true, false, cond, refl, sym, ◌∙◌, subst, ap, nat_lt, add-one, replicate}
+use Rattle.std.proofs.Common.{◌≡◌, inl, inr, ℕ, zero, suc, ◌+◌, ◌%◌, ◌<◌, ◌≤◌, List, [], ◌∷◌, length, get_or, take, reverse, Bool, true, false, ◌&&◌, ◌||◌, ◌==◌, ◌-◌, cond, refl, sym, ◌∙◌, subst, ap, nat_le, le-leb, true≢false, add-one, replicate}
 use Rattle.std.proofs.lemmas.List.{reverse-append, length-replicate}
 use Rattle.std.proofs.Math.Seq.{take-suc}
-use Rattle.std.proofs.lemmas.Bool.{ltb-true, le-ltb}
+use Rattle.std.proofs.lemmas.Bool.{leb-false}
 use Rattle.std.specs.Prelude.{Vec}
 use Rattle.std.specs.declared.alloc.Global.{Global}
 use Rattle.voice_outside.specs.Disk.{AgreesOutside}
 use Rattle.voice_disk.specs.Bytes.{over}
 use Rattle.voice_disk.specs.Over.{over_outside}
 use Rattle.voice_disk.specs.Replay.{bytes_made, bytes_after, images_made, images_after, left_since, newest}
-use Rattle.voice_disk.specs.Image.{made_by, write_chosen, image_made, image_after}
+use Rattle.voice_disk.specs.Image.{is_begun, is_write, begun_by, write_chosen, image_made, image_after}
 use Rattle.voice_disk.specs.declared.record.Made.{Made}
 use Rattle.voice_disk.specs.declared.record.Made.TheVariants.{Read, Write, Sync}
 use Rattle.voice_disk.specs.declared.record.Entry.{Entry}
@@ -22,13 +22,22 @@ reversed_step log i e within is =
     ∙ reverse-append (take i log) (get_or log i e ∷ [])
     ∙ ap (λ (x : Entry). x ∷ reverse (take i log)) (sym is)
 
-all_made : (moment : ℕ) (e : Entry) (calls : List Entry) → e.number ≤ moment → made_by moment (e ∷ calls) ≡ e ∷ calls
-all_made moment e calls by = ap (λ later. cond later (made_by moment calls) (e ∷ calls)) (le-ltb moment e.number by)
+-- a call that was made by the moment was begun by then
+made_begun : (moment : ℕ) (e : Entry) → e.number ≤ moment → is_begun moment e ≡ true
+made_begun moment e by = ap (λ made. made || ((e.number - moment == 1) && is_write e.made)) (le-leb e.number moment by)
+
+all_begun : (moment : ℕ) (e : Entry) (calls : List Entry) → e.number ≤ moment → begun_by moment (e ∷ calls) ≡ e ∷ calls
+all_begun moment e calls by = ap (λ begun. cond begun (e ∷ calls) (begun_by moment calls)) (made_begun moment e by)
 
 -- where the newest call was made by the moment, all were
-pub all_made_by : (moment : ℕ) (calls : List Entry) → newest calls ≤ moment → made_by moment calls ≡ calls
-all_made_by moment [] by = refl
-all_made_by moment (e ∷ calls) by = all_made moment e calls by
+pub all_begun_by : (moment : ℕ) (calls : List Entry) → newest calls ≤ moment → begun_by moment calls ≡ calls
+all_begun_by moment [] by = refl
+all_begun_by moment (e ∷ calls) by = all_begun moment e calls by
+
+-- a call that was not begun by the moment is later
+not_begun : (moment : ℕ) (e : Entry) (made : Bool) → nat_le e.number moment ≡ made → (made || ((e.number - moment == 1) && is_write e.made)) ≡ false → moment < e.number
+not_begun moment e true is later = absurd (true≢false later)
+not_begun moment e false is later = leb-false e.number moment is
 
 same : (at n : ℕ) (image : List ℕ) → AgreesOutside at n image image
 same at n image = record { same_length = refl; before = λ i lt. refl; after = λ i le. refl }
@@ -52,15 +61,15 @@ pub image_left : (choice : ℕ) (first : List ℕ) (calls : List Entry) → imag
 image_left choice first [] = refl
 image_left choice first (e ∷ calls) = made_left choice (bytes_after first calls) (image_after choice first calls) (images_after first calls) e.made (image_left choice first calls)
 
-left_by_step : (moment : ℕ) (first : List ℕ) (e : Entry) (calls : List Entry) (image : List ℕ) (later : Bool) → nat_lt moment e.number ≡ later → (images_after first (made_by moment calls) image → left_since first calls moment image)
-    → images_after first (cond later (made_by moment calls) (e ∷ calls)) image → left_since first (e ∷ calls) moment image
-left_by_step moment first e calls image true is rest left = inr (ltb-true moment e.number is, rest left)
-left_by_step moment first e calls image false is rest left = inl left
+left_by_step : (moment : ℕ) (first : List ℕ) (e : Entry) (calls : List Entry) (image : List ℕ) (begun : Bool) → is_begun moment e ≡ begun → (images_after first (begun_by moment calls) image → left_since first calls moment image)
+    → images_after first (cond begun (e ∷ calls) (begun_by moment calls)) image → left_since first (e ∷ calls) moment image
+left_by_step moment first e calls image true is rest left = inl left
+left_by_step moment first e calls image false is rest left = inr (not_begun moment e (nat_le e.number moment) refl is, rest left)
 
--- an image of the calls made by a moment is one that a crash since then may leave
-pub left_by : (moment : ℕ) (first : List ℕ) (calls : List Entry) (image : List ℕ) → images_after first (made_by moment calls) image → left_since first calls moment image
+-- an image of the calls begun by a moment is one that a crash since then may leave
+pub left_by : (moment : ℕ) (first : List ℕ) (calls : List Entry) (image : List ℕ) → images_after first (begun_by moment calls) image → left_since first calls moment image
 left_by moment first [] image left = left
-left_by moment first (e ∷ calls) image left = left_by_step moment first e calls image (nat_lt moment e.number) refl (left_by moment first calls image) left
+left_by moment first (e ∷ calls) image left = left_by_step moment first e calls image (is_begun moment e) refl (left_by moment first calls image) left
 
 made_written : (bytes : List ℕ) (made : Made) → image_made 1 bytes bytes made ≡ bytes_made bytes made
 made_written bytes (Read done) = refl

@@ -3,19 +3,29 @@
 ghost use Rattle.std.specs.Prelude.{◌≡◌, ◌≤◌, length, reverse, IfOk};
 ghost use Rattle.voice_disk.specs.Replay.{bytes_made, bytes_after};
 ghost use Rattle.voice_disk.specs.Memory.{mem_told};
-ghost use Rattle.voice_disk.specs.Image.{made_by, write_chosen, image_made, image_after, image_at};
+ghost use Rattle.voice_disk.specs.Image.{is_begun, begun_by, write_chosen, image_made, image_after, image_at};
 
 use crate::memory::MemDisk;
 use crate::record::{Entry, Made, fill_over, put_over};
 use std::alloc::Global;
 use voice_units::NoMemory;
 
-// The calls that were made by a moment.
-fn made_by(log: &[Entry], moment: u64) -> &[Entry]
-    ensures { reverse result.now ≡ made_by moment (reverse log.now) }
+// Whether a call was made by a moment, or is the write that comes next and may have begun.
+fn is_begun(entry: &Entry, moment: u64) -> bool
+    ensures { result ≡ is_begun moment entry.now }
+{
+    if entry.number <= moment {
+        return true;
+    }
+    entry.number - moment == 1 && matches!(&entry.made, Made::Write(_, _, _))
+}
+
+// The calls that a crash at a moment may have met: those made by then, and the write that comes next.
+fn begun_by(log: &[Entry], moment: u64) -> &[Entry]
+    ensures { reverse result.now ≡ begun_by moment (reverse log.now) }
 {
     let mut n = log.len();
-    while n > 0 && log[n - 1].number > moment {
+    while n > 0 && !is_begun(&log[n - 1], moment) {
         n -= 1;
     }
     &log[..n]
@@ -69,7 +79,7 @@ fn replay(bytes: &mut [u8], image: &mut [u8], calls: &[Entry], choice: u16)
     }
 }
 
-/// The image that a crash at a moment leaves where each byte that isn't settled then has its last synced value (choice 0), its written value (1), or the choice mod 256 (2 and more). The moment is a number of calls of the disk.
+/// The image that a crash at a moment leaves where each byte that isn't settled then has its last synced value (choice 0), its written value (1), or the choice mod 256 (2 and more). The moment is a number of calls of the disk; a crash at a moment may come within the next call, so what that writes isn't settled either.
 pub fn image_of(
     alloc: Global,
     disk: &MemDisk,
@@ -83,6 +93,6 @@ pub fn image_of(
 {
     let mut bytes = disk.first.as_slice().to_vec(alloc)?;
     let mut image = disk.first.as_slice().to_vec(alloc)?;
-    replay(&mut bytes, &mut image, made_by(&disk.log, moment), choice);
+    replay(&mut bytes, &mut image, begun_by(&disk.log, moment), choice);
     Ok(image)
 }

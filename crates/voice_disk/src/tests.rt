@@ -18,7 +18,7 @@ fn reads<D: Disk>(rt: &impl Abort, disk: &mut D, at: u64, wanted: &[u8; 5]) -> b
     disk.read(at, &mut found).is_ok() && found == *wanted
 }
 
-// A write that is synced, one that isn't, and one that fails.
+// A write that is synced, one that isn't, and one that fails. At each moment the write that comes next may have begun.
 #[test]
 fn images_around_a_write(rt: HostRuntime) -> Result<(), NoMemory> {
     let bytes = Vec::from_slice(rt.alloc(), &[10, 11, 12, 13, 14, 15])?;
@@ -32,15 +32,17 @@ fn images_around_a_write(rt: HostRuntime) -> Result<(), NoMemory> {
     assert!(rt; disk.starved() == 0);
     let rows = [
         (0, 0, [10u8, 11, 12, 13, 14, 15]),
-        (0, 7, [10, 11, 12, 13, 14, 15]),
+        (0, 1, [10, 21, 22, 13, 14, 15]),
+        (0, 7, [10, 7, 7, 13, 14, 15]),
         (1, 0, [10, 11, 12, 13, 14, 15]),
         (1, 1, [10, 21, 22, 13, 14, 15]),
         (1, 7, [10, 7, 7, 13, 14, 15]),
         (2, 0, [10, 21, 22, 13, 14, 15]),
-        (2, 7, [10, 21, 22, 13, 14, 15]),
+        (2, 1, [10, 21, 32, 33, 14, 15]),
+        (2, 7, [10, 21, 7, 7, 14, 15]),
         (3, 0, [10, 21, 22, 13, 14, 15]),
         (3, 1, [10, 21, 32, 33, 14, 15]),
-        (3, 7, [10, 21, 7, 7, 14, 15]),
+        (3, 7, [10, 21, 7, 7, 7, 15]),
         (4, 0, [10, 21, 22, 13, 14, 15]),
         (4, 1, [10, 21, 32, 33, 14, 15]),
         (4, 7, [10, 21, 7, 7, 7, 15]),
