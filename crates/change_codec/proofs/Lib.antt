@@ -1,0 +1,12 @@
+pub mod Answers
+pub mod Appended
+pub mod Complete
+pub mod CompleteKinds
+pub mod Digits
+pub mod Reading
+pub mod Joined
+pub mod Numbers
+pub mod Places
+pub mod Sizes
+pub mod Sound
+pub mod SoundKinds

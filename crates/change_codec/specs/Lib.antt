@@ -1,0 +1,4 @@
+pub mod Widths
+pub mod Refused
+pub mod Said
+pub mod Laws

@@ -1,0 +1,177 @@
+//! Numbers in a payload, with their ranges.
+
+ghost use Rattle.std.specs.Prelude.{◌≡◌, ℕ, ◌+◌, ◌≤◌, ◌^◌, length, None, IfOk, IfErr, MatchResult};
+ghost use Rattle.voice_units.specs.Spots.{slice};
+ghost use Rattle.voice_model.specs.Spelling.{number_at};
+ghost use Rattle.change_codec.specs.Refused.{number, part, behind, IsPlace};
+
+use super::errors::GetError;
+use byteorder::{BigEndian, ByteOrder};
+use voice_units::{Moment, RopeId};
+
+// The number in the byte at a place.
+fn read_1(bytes: &[u8], at: usize) -> u8
+    requires { at + 1 ≤ length bytes.now }
+    ensures { result ≡ number_at 1 at bytes.now }
+{
+    bytes[at]
+}
+
+// The number in the 2 bytes from a place on.
+pub fn read_2(bytes: &[u8], at: usize) -> u16
+    requires { at + 2 ≤ length bytes.now }
+    ensures { result ≡ number_at 2 at bytes.now }
+{
+    BigEndian::read_u16(&bytes[at..])
+}
+
+// The number in the 4 bytes from a place on.
+pub fn read_4(bytes: &[u8], at: usize) -> u32
+    requires { at + 4 ≤ length bytes.now }
+    ensures { result ≡ number_at 4 at bytes.now }
+{
+    BigEndian::read_u32(&bytes[at..])
+}
+
+// The number in the 8 bytes from a place on.
+fn read_8(bytes: &[u8], at: usize) -> u64
+    requires { at + 8 ≤ length bytes.now }
+    ensures { result ≡ number_at 8 at bytes.now }
+{
+    BigEndian::read_u64(&bytes[at..])
+}
+
+// Tests that n bytes stand from a place on.
+#[tactic(auto, using(crate::proofs::Places::part_short, crate::proofs::Places::part_whole))]
+pub fn part_at(bytes: &[u8], at: usize, n: usize) -> Result<(), GetError>
+    requires within { at ≤ length bytes.now }
+    requires few { n ≤ 256 }
+    ensures place { MatchResult result (λ _. part at n bytes.now ≡ None) (λ e. IsPlace (part at n bytes.now) e) }
+    ensures within { IfOk result (λ _. at + n ≤ length bytes.now) }
+{
+    if bytes.len() < at + n {
+        return Err(GetError::NotAChange(bytes.len() as u64));
+    }
+    Ok(())
+}
+
+// Tests that nothing stands from a place on.
+#[tactic(auto, using(crate::proofs::Places::some_behind, crate::proofs::Places::nothing_behind))]
+pub fn end_at(bytes: &[u8], at: usize) -> Result<(), GetError>
+    ensures place { MatchResult result (λ _. behind at bytes.now ≡ None) (λ e. IsPlace (behind at bytes.now) e) }
+{
+    if at < bytes.len() {
+        return Err(GetError::NotAChange(at as u64));
+    }
+    Ok(())
+}
+
+// The number in the byte at a place.
+#[tactic(auto, using(crate::proofs::Places::number_short, crate::proofs::Places::number_low, crate::proofs::Places::number_high, crate::proofs::Places::number_right))]
+pub fn number_1(bytes: &[u8], at: usize, least: u8, most: u8) -> Result<u8, GetError>
+    requires within { at ≤ length bytes.now }
+    ensures place { MatchResult result (λ _. number at 1 least most bytes.now ≡ None) (λ e. IsPlace (number at 1 least most bytes.now) e) }
+    ensures value { IfOk result (λ n. n ≡ number_at 1 at bytes.now) }
+    ensures range { IfOk result (λ n. (least ≤ n) × (n ≤ most)) }
+    ensures within { IfOk result (λ _. at + 1 ≤ length bytes.now) }
+{
+    if bytes.len() < at + 1 {
+        return Err(GetError::NotAChange(bytes.len() as u64));
+    }
+    let n = read_1(bytes, at);
+    if n < least {
+        return Err(GetError::NotAChange(at as u64));
+    }
+    if n > most {
+        return Err(GetError::NotAChange(at as u64));
+    }
+    Ok(n)
+}
+
+// The number in the 2 bytes from a place on.
+#[tactic(auto, using(crate::proofs::Places::number_short, crate::proofs::Places::number_low, crate::proofs::Places::number_high, crate::proofs::Places::number_right))]
+pub fn number_2(bytes: &[u8], at: usize, least: u16, most: u32) -> Result<u16, GetError>
+    requires within { at ≤ length bytes.now }
+    ensures place { MatchResult result (λ _. number at 2 least most bytes.now ≡ None) (λ e. IsPlace (number at 2 least most bytes.now) e) }
+    ensures value { IfOk result (λ n. n ≡ number_at 2 at bytes.now) }
+    ensures range { IfOk result (λ n. (least ≤ n) × (n ≤ most)) }
+    ensures within { IfOk result (λ _. at + 2 ≤ length bytes.now) }
+{
+    if bytes.len() < at + 2 {
+        return Err(GetError::NotAChange(bytes.len() as u64));
+    }
+    let n = read_2(bytes, at);
+    if n < least {
+        return Err(GetError::NotAChange(at as u64));
+    }
+    if u32::from(n) > most {
+        return Err(GetError::NotAChange(at as u64));
+    }
+    Ok(n)
+}
+
+// The number in the 4 bytes from a place on.
+#[tactic(auto, using(crate::proofs::Places::number_short, crate::proofs::Places::number_low, crate::proofs::Places::number_high, crate::proofs::Places::number_right))]
+pub fn number_4(bytes: &[u8], at: usize, least: u64, most: u64) -> Result<u32, GetError>
+    requires within { at ≤ length bytes.now }
+    ensures place { MatchResult result (λ _. number at 4 least most bytes.now ≡ None) (λ e. IsPlace (number at 4 least most bytes.now) e) }
+    ensures value { IfOk result (λ n. n ≡ number_at 4 at bytes.now) }
+    ensures range { IfOk result (λ n. (least ≤ n) × (n ≤ most)) }
+    ensures within { IfOk result (λ _. at + 4 ≤ length bytes.now) }
+{
+    if bytes.len() < at + 4 {
+        return Err(GetError::NotAChange(bytes.len() as u64));
+    }
+    let n = read_4(bytes, at);
+    if u64::from(n) < least {
+        return Err(GetError::NotAChange(at as u64));
+    }
+    if u64::from(n) > most {
+        return Err(GetError::NotAChange(at as u64));
+    }
+    Ok(n)
+}
+
+// The number in the 8 bytes from a place on.
+#[tactic(auto, using(crate::proofs::Places::number_short, crate::proofs::Places::number_low, crate::proofs::Places::number_high, crate::proofs::Places::number_right))]
+pub fn number_8(bytes: &[u8], at: usize, least: u64, most: u64) -> Result<u64, GetError>
+    requires within { at ≤ length bytes.now }
+    ensures place { MatchResult result (λ _. number at 8 least most bytes.now ≡ None) (λ e. IsPlace (number at 8 least most bytes.now) e) }
+    ensures value { IfOk result (λ n. n ≡ number_at 8 at bytes.now) }
+    ensures range { IfOk result (λ n. (least ≤ n) × (n ≤ most)) }
+    ensures within { IfOk result (λ _. at + 8 ≤ length bytes.now) }
+{
+    if bytes.len() < at + 8 {
+        return Err(GetError::NotAChange(bytes.len() as u64));
+    }
+    let n = read_8(bytes, at);
+    if n < least {
+        return Err(GetError::NotAChange(at as u64));
+    }
+    if n > most {
+        return Err(GetError::NotAChange(at as u64));
+    }
+    Ok(n)
+}
+
+// The number of a rope or of a voice file.
+pub fn id_at(bytes: &[u8], at: usize, least: u64) -> Result<RopeId, GetError>
+    requires within { at ≤ length bytes.now }
+    ensures place { MatchResult result (λ _. number at 8 least (2 ^ 48) bytes.now ≡ None) (λ e. IsPlace (number at 8 least (2 ^ 48) bytes.now) e) }
+    ensures value { IfOk result (λ id. id ≡ number_at 8 at bytes.now) }
+    ensures within { IfOk result (λ _. at + 8 ≤ length bytes.now) }
+{
+    let n = number_8(bytes, at, least, 1 << 48)?;
+    Ok(RopeId(n))
+}
+
+// A moment.
+pub fn moment_at(bytes: &[u8], at: usize, least: u64) -> Result<Moment, GetError>
+    requires within { at ≤ length bytes.now }
+    ensures place { MatchResult result (λ _. number at 8 least (2 ^ 40) bytes.now ≡ None) (λ e. IsPlace (number at 8 least (2 ^ 40) bytes.now) e) }
+    ensures value { IfOk result (λ moment. moment ≡ number_at 8 at bytes.now) }
+    ensures within { IfOk result (λ _. at + 8 ≤ length bytes.now) }
+{
+    let n = number_8(bytes, at, least, 1 << 40)?;
+    Ok(Moment(n))
+}
