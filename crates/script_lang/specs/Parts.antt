@@ -2,8 +2,9 @@
 --     bind_at words      the word that is bound, and the words behind it
 --     served verb      the lane that a verb serves
 --     is_taken lines caller lane      another caller serves the lane in these lines
+--     is_known verb count      the verb names a tape, and its number is below the count
 --     with_line n r s      the script with line n, which says s
-use Rattle.std.specs.Prelude.{ℕ, List, [], ◌∷◌, ◌++◌, ◌&&◌, ◌==◌, Bool, true, false, not, Option, Some, None, is_some, if◌then◌else◌, drop, slice_index_or, codes, max}
+use Rattle.std.specs.Prelude.{ℕ, List, [], ◌∷◌, ◌++◌, ◌&&◌, ◌==◌, Bool, true, false, not, Option, Some, None, is_some, if◌then◌else◌, drop, slice_index_or, codes, max, nat_lt}
 use Rattle.std.specs.List.{list_any}
 use Rattle.std.specs.Str.{bytes_eq}
 use Rattle.script_lang.specs.declared.scripts.Verb.{Verb}
@@ -48,6 +49,12 @@ serves caller lane line = is_other (served line.verb) lane line.caller caller
 abbrev pub is_taken : List Line → ℕ → Option ℕ → Bool
 is_taken lines caller None = false
 is_taken lines caller (Some lane) = list_any (serves caller lane) lines
+
+-- the verb names a tape, and its number is below the count
+abbrev pub is_known : Verb → ℕ → Bool
+is_known (verbs.Record tape) count = nat_lt tape count
+is_known (verbs.Add lane tape) count = nat_lt tape count
+is_known _ count = false
 
 -- the sample files with one more, if it is new
 abbrev pub mention : List (List ℕ) → Option (List ℕ) → List (List ℕ)

@@ -61,10 +61,11 @@ abbrev pub now_of : Option (Bor (List ℕ)) → Option (List ℕ)
 now_of None = None
 now_of (Some word) = Some word.now
 
--- what is bound, as the words say it
-abbrev pub Binds : Result (Option (List ℕ)) Cause → VerbName → Option (List ℕ) → Type 0
+-- what is bound, as the words say it, unless memory ran out
+abbrev pub Binds : Result (Option (List ℕ)) Refusal → VerbName → Option (List ℕ) → Type 0
 Binds (Ok bind) name word = (binds_well name word ≡ true) × (bind ≡ word)
-Binds (Err cause) name word = (binds_well name word ≡ false) × (cause ≡ causes.Bind)
+Binds (Err (refusals.Bad cause)) name word = (binds_well name word ≡ false) × (cause ≡ causes.Bind)
+Binds (Err refusals.NoMemory) name word = Unit {0}
 
 abbrev pub guard : Bool → Cause → Result (Unit {0}) Cause
 guard true cause = Ok tt

@@ -3,7 +3,8 @@
 --     words_of line      the words, at runs of spaces and tabs
 --     IsQuiet line      no word, or a first word that begins with `#`
 --     IsPlain line      only bytes 21 to 7E besides spaces and tabs
-use Rattle.std.specs.Prelude.{ℕ, List, [], ◌∷◌, ◌-◌, Bool, true, false, ◌&&◌, ◌||◌, ◌==◌, nat_le, if◌then◌else◌, map, length, take, slice_index, Option, Some, None}
+--     is_clean bytes      no line of these holds another byte
+use Rattle.std.specs.Prelude.{ℕ, List, [], ◌∷◌, ◌-◌, Bool, true, false, ◌&&◌, ◌||◌, ◌==◌, nat_le, if◌then◌else◌, map, length, take, slice_index}
 use Rattle.std.specs.List.{filter, list_all}
 
 abbrev pub push_front : ℕ → List (List ℕ) → List (List ℕ)
@@ -45,7 +46,10 @@ is_plain_byte b = (nat_le 33 b && nat_le b 126) || is_blank b
 abbrev pub is_plain : List ℕ → Bool
 is_plain line = list_all is_plain_byte line
 
-abbrev pub second_of : List (List ℕ) → Option (List ℕ)
-second_of [] = None
-second_of (word ∷ []) = None
-second_of (word ∷ (second ∷ words)) = Some second
+-- such a byte, or the end of a line
+abbrev pub is_clean_byte : ℕ → Bool
+is_clean_byte b = is_plain_byte b || is_end b
+
+-- no line of these bytes holds another byte than printed ones, spaces and tabs
+abbrev pub is_clean : List ℕ → Bool
+is_clean bytes = list_all is_clean_byte bytes

@@ -3,15 +3,16 @@
 ghost use Rattle.std.specs.Prelude.{◌≡◌, ℕ, ◌<◌, ◌≤◌, ◌^◌, ◌+◌, length, IfSome, IfOk};
 ghost use Rattle.script_lang.specs.Forms.{class_of, hex_value, hex_of, note_of};
 ghost use Rattle.script_lang.specs.declared.arguments.Unread.TheVariants as unread;
-ghost use Rattle.script_lang.specs.Arguments.{Reads, next, rope_at, rope_of, number_at, file_at, key_at, class_at, note_at, key_of, ropes_of, keys_of, ReadsAll, file_of, ReadsWord};
+ghost use Rattle.script_lang.specs.Arguments.{Reads, Says, next, rope_at, rope_of, number_at, file_at, key_at, class_at, note_at, key_of, ropes_of, keys_of, ReadsAll, file_of, ReadsWord};
 
 use crate::forms;
+use crate::labels::{Boxed, Label};
 use crate::numbers::number;
 use crate::scripts::RopeArg;
 use crate::words::Words;
 use std::alloc::{AllocFailed, Global};
 use voice_model::{Class, Key, Note};
-use voice_units::{Lane, Moment, Name, RopeId};
+use voice_units::{Lane, Moment, NoMemory, RopeId};
 
 /// Why words are not read.
 #[derive(Clone, Copy, Debug, PartialEq, Eq)]
@@ -28,32 +29,50 @@ impl<T: Drop> From<AllocFailed<T>> for Unread {
     }
 }
 
+impl From<NoMemory> for Unread {
+    ghost from_gives = { λ _ e. e ≡ unread.NoMemory };
+
+    fn from(_: NoMemory) -> Self {
+        Unread::NoMemory
+    }
+}
+
 // The rope that the word means.
 #[tactic(auto, unfolding(crate::specs::Arguments::rope_of))]
-fn rope_of(word: &[u8]) -> Option<RopeArg>
-    ensures { result ≡ rope_of word.now }
+fn rope_of(alloc: Global, word: &[u8]) -> Result<RopeArg, Unread>
+    ensures { Says result (rope_of word.now) }
 {
     if forms::is_var(word) {
-        let Ok(name) = Name::new(word) else {
-            unreachable!();
-        };
-        return Some(RopeArg::Var(name));
+        let name = Label::new(alloc, word)?;
+        return Ok(RopeArg::Var(name));
     }
-    let id = number(word, 1 << 48)?;
-    Some(RopeArg::Id(RopeId(id)))
+    match number(word, 1 << 48) {
+        Some(id) => Ok(RopeArg::Id(RopeId(id))),
+        None => Err(Unread::Arguments),
+    }
 }
 
 #[tactic(auto, unfolding(crate::specs::Arguments::file_of))]
-fn file_of(word: &[u8]) -> Option<Name>
-    ensures { result ≡ file_of word.now }
+fn file_of(alloc: Global, word: &[u8]) -> Result<Label, Unread>
+    ensures { Says result (file_of word.now) }
 {
     if !forms::is_file(word) {
-        return None;
+        return Err(Unread::Arguments);
     }
-    let Ok(name) = Name::new(word) else {
-        unreachable!();
-    };
-    Some(name)
+    let name = Label::new(alloc, word)?;
+    Ok(name)
+}
+
+// A key that is kept in the line.
+#[tactic(auto, unfolding(crate::specs::Arguments::key_of))]
+fn label_of(alloc: Global, word: &[u8]) -> Result<Label, Unread>
+    ensures { Says result (key_of word.now) }
+{
+    if !forms::is_key(word) {
+        return Err(Unread::Arguments);
+    }
+    let key = Label::new(alloc, word)?;
+    Ok(key)
 }
 
 #[tactic(auto, unfolding(crate::specs::Arguments::key_of))]
@@ -149,14 +168,11 @@ impl<'a> Words<'a> {
     }
 
     #[tactic(auto, unfolding(crate::specs::Arguments::rope_at))]
-    pub fn rope(&mut self) -> Result<RopeArg, Unread>
+    pub fn rope(&mut self, alloc: Global) -> Result<RopeArg, Unread>
         ensures { Reads result (rope_at self.old) self.new }
     {
         let word = self.need()?;
-        match rope_of(word) {
-            Some(rope) => Ok(rope),
-            None => Err(Unread::Arguments),
-        }
+        rope_of(alloc, word)
     }
 
     #[tactic(auto, unfolding(crate::specs::Arguments::number_at))]
@@ -180,25 +196,19 @@ impl<'a> Words<'a> {
     }
 
     #[tactic(auto, unfolding(crate::specs::Arguments::file_at))]
-    pub fn file(&mut self) -> Result<Name, Unread>
+    pub fn file(&mut self, alloc: Global) -> Result<Label, Unread>
         ensures { Reads result (file_at self.old) self.new }
     {
         let word = self.need()?;
-        match file_of(word) {
-            Some(name) => Ok(name),
-            None => Err(Unread::Arguments),
-        }
+        file_of(alloc, word)
     }
 
     #[tactic(auto, unfolding(crate::specs::Arguments::key_at))]
-    pub fn key(&mut self) -> Result<Key, Unread>
+    pub fn key(&mut self, alloc: Global) -> Result<Label, Unread>
         ensures { Reads result (key_at self.old) self.new }
     {
         let word = self.need()?;
-        match key_of(word) {
-            Some(key) => Ok(key),
-            None => Err(Unread::Arguments),
-        }
+        label_of(alloc, word)
     }
 
     #[tactic(auto, unfolding(crate::specs::Arguments::class_at))]
@@ -213,14 +223,15 @@ impl<'a> Words<'a> {
     }
 
     #[tactic(auto, unfolding(crate::specs::Arguments::note_at))]
-    pub fn note(&mut self) -> Result<Note, Unread>
+    pub fn note(&mut self, alloc: Global) -> Result<Boxed<Note>, Unread>
         ensures { Reads result (note_at self.old) self.new }
     {
         let word = self.need()?;
-        match note_of(word) {
-            Some(note) => Ok(note),
-            None => Err(Unread::Arguments),
-        }
+        let Some(note) = note_of(word) else {
+            return Err(Unread::Arguments);
+        };
+        let note = Boxed::new(alloc, note)?;
+        Ok(note)
     }
 
     pub fn lane(&mut self) -> Result<Lane, Unread>
@@ -250,8 +261,10 @@ impl<'a> Words<'a> {
     {
         let mut all = Vec::new(alloc);
         'words: while let Some(word) = self.word() {
-            let Some(x) = rope_of(word) else {
-                return Err(Unread::Arguments);
+            let x = match rope_of(alloc, word) {
+                Ok(x) => x,
+                Err(Unread::Arguments) => return Err(Unread::Arguments),
+                Err(Unread::NoMemory) => return Err(Unread::NoMemory),
             };
             all.push(x)?;
         }

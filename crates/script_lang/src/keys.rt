@@ -2,6 +2,7 @@
 
 ghost use Rattle.std.specs.Prelude.{◌≡◌};
 
+use crate::labels::Label;
 use std::hash::{Hash, Hasher};
 use std::marker::Model;
 use voice_units::Name;
@@ -58,16 +59,9 @@ impl Hash for NameKey {
 
 impl NameKey {
     /// The key of a name.
-    pub fn of(name: &Name) -> NameKey
+    pub fn of(name: &Label) -> NameKey
         ensures { result ≡ name.now }
     {
-        NameKey { name: *name }
-    }
-
-    /// The name.
-    pub fn name(&self) -> Name
-        ensures { result ≡ self.now }
-    {
-        self.name
+        NameKey { name: name.name() }
     }
 }

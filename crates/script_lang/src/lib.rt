@@ -4,6 +4,7 @@
 mod arguments;
 mod forms;
 mod keys;
+mod labels;
 mod numbers;
 mod owners;
 mod phrases;
@@ -17,6 +18,7 @@ mod verbs;
 mod words;
 
 pub use forms::is_file;
+pub use labels::{Boxed, Label};
 pub use reader::parse;
 pub use scripts::{ArgList, Cause, Line, RopeArg, Script, ScriptError, Verb};
 pub use text::entry_text;

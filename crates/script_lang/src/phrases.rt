@@ -1,23 +1,23 @@
 //! What the words behind each verb say.
 
-ghost use Rattle.std.specs.Prelude.{◌≡◌, ℕ, ◌<◌, ◌^◌, length};
-ghost use Rattle.script_lang.specs.Arguments.{Reads, Says, just, said_of, record_at, concat_at, sub_at, replace_at, length_at, retain_at, forget_at, lookup_at, census_at, advance_at, sweep_at, describe_at, queue_at, play_at, serve_at, stop_at, begin_at, add_at, end_at, levels_at};
+ghost use Rattle.std.specs.Prelude.{Some, ◌≡◌, ℕ, ◌<◌, ◌^◌, length};
+ghost use Rattle.script_lang.specs.Arguments.{Reads, Says, just, said_of, whole, record_at, concat_at, sub_at, replace_at, length_at, retain_at, forget_at, lookup_at, census_at, advance_at, sweep_at, describe_at, queue_at, play_at, serve_at, stop_at, begin_at, add_at, end_at, levels_at};
 
 use crate::arguments::Unread;
+use crate::labels::{Boxed, Label};
 use crate::samples::Samples;
 use crate::scripts::{ArgList, Verb};
 use crate::verbs::VerbName;
 use crate::words::Words;
 use std::alloc::Global;
 use voice_model::KeyList;
-use voice_units::Name;
 
 /// What a line says behind its verb: the verb with its arguments, the file of a play, and a sample file.
 #[derive(Drop)]
 pub struct Said {
     pub verb: Verb,
-    pub file: Option<Name>,
-    pub sample: Option<Name>,
+    pub file: Option<Label>,
+    pub sample: Option<Label>,
 }
 
 fn just(verb: Verb) -> Said
@@ -31,11 +31,11 @@ fn just(verb: Verb) -> Said
 }
 
 #[tactic(auto, unfolding(crate::specs::Arguments::record_at))]
-fn record(words: &mut Words, samples: &Samples) -> Result<Said, Unread>
+fn record(alloc: Global, words: &mut Words, samples: &Samples) -> Result<Said, Unread>
     requires { length samples.now < 2 ^ 32 }
     ensures { Reads result (record_at samples.now words.old) words.new }
 {
-    let file = words.file()?;
+    let file = words.file(alloc)?;
     let tape = samples.tape_of(&file);
     Ok(Said {
         verb: Verb::Record(tape),
@@ -45,20 +45,20 @@ fn record(words: &mut Words, samples: &Samples) -> Result<Said, Unread>
 }
 
 #[tactic(auto, unfolding(crate::specs::Arguments::sub_at))]
-fn sub(words: &mut Words) -> Result<Said, Unread>
+fn sub(alloc: Global, words: &mut Words) -> Result<Said, Unread>
     ensures { Reads result (sub_at words.old) words.new }
 {
-    let rope = words.rope()?;
+    let rope = words.rope(alloc)?;
     let start = words.count()?;
     let len = words.count()?;
     Ok(just(Verb::Sub(rope, start, len)))
 }
 
 #[tactic(auto, unfolding(crate::specs::Arguments::length_at))]
-fn length(words: &mut Words) -> Result<Said, Unread>
+fn length(alloc: Global, words: &mut Words) -> Result<Said, Unread>
     ensures { Reads result (length_at words.old) words.new }
 {
-    let rope = words.rope()?;
+    let rope = words.rope(alloc)?;
     Ok(just(Verb::Length(rope)))
 }
 
@@ -85,42 +85,44 @@ fn census(alloc: Global, words: &mut Words) -> Result<Said, Unread>
 }
 
 #[tactic(auto, unfolding(crate::specs::Arguments::replace_at))]
-fn replace(words: &mut Words) -> Result<Said, Unread>
+fn replace(alloc: Global, words: &mut Words) -> Result<Said, Unread>
     ensures { Reads result (replace_at words.old) words.new }
 {
-    let rope = words.rope()?;
+    let rope = words.rope(alloc)?;
     let start = words.count()?;
     let len = words.count()?;
-    let other = words.rope()?;
+    let other = words.rope(alloc)?;
+    let other = Boxed::new(alloc, other)?;
     Ok(just(Verb::Replace(rope, start, len, other)))
 }
 
 #[tactic(auto, unfolding(crate::specs::Arguments::retain_at))]
-fn retain(words: &mut Words) -> Result<Said, Unread>
+fn retain(alloc: Global, words: &mut Words) -> Result<Said, Unread>
     ensures { Reads result (retain_at words.old) words.new }
 {
     let class = words.class()?;
-    let key = words.key()?;
-    let rope = words.rope()?;
-    let note = words.note()?;
+    let key = words.key(alloc)?;
+    let rope = words.rope(alloc)?;
+    let note = words.note(alloc)?;
+    let key = Boxed::new(alloc, key)?;
     Ok(just(Verb::Retain(class, key, rope, note)))
 }
 
 #[tactic(auto, unfolding(crate::specs::Arguments::forget_at))]
-fn forget(words: &mut Words) -> Result<Said, Unread>
+fn forget(alloc: Global, words: &mut Words) -> Result<Said, Unread>
     ensures { Reads result (forget_at words.old) words.new }
 {
     let class = words.class()?;
-    let key = words.key()?;
+    let key = words.key(alloc)?;
     Ok(just(Verb::Forget(class, key)))
 }
 
 #[tactic(auto, unfolding(crate::specs::Arguments::lookup_at))]
-fn lookup(words: &mut Words) -> Result<Said, Unread>
+fn lookup(alloc: Global, words: &mut Words) -> Result<Said, Unread>
     ensures { Reads result (lookup_at words.old) words.new }
 {
     let class = words.class()?;
-    let key = words.key()?;
+    let key = words.key(alloc)?;
     Ok(just(Verb::Lookup(class, key)))
 }
 
@@ -141,33 +143,33 @@ fn sweep(words: &mut Words) -> Result<Said, Unread>
 }
 
 #[tactic(auto, unfolding(crate::specs::Arguments::describe_at))]
-fn describe(words: &mut Words) -> Result<Said, Unread>
+fn describe(alloc: Global, words: &mut Words) -> Result<Said, Unread>
     ensures { Reads result (describe_at words.old) words.new }
 {
-    let rope = words.rope()?;
+    let rope = words.rope(alloc)?;
     Ok(just(Verb::Describe(rope)))
 }
 
 #[tactic(auto, unfolding(crate::specs::Arguments::queue_at))]
-fn queue(words: &mut Words) -> Result<Said, Unread>
+fn queue(alloc: Global, words: &mut Words) -> Result<Said, Unread>
     ensures { Reads result (queue_at words.old) words.new }
 {
     let lane = words.lane()?;
-    let rope = words.rope()?;
+    let rope = words.rope(alloc)?;
     let start = words.count()?;
     let len = words.count()?;
     Ok(just(Verb::Queue(lane, rope, start, len)))
 }
 
 #[tactic(auto, unfolding(crate::specs::Arguments::play_at))]
-fn play(words: &mut Words) -> Result<Said, Unread>
+fn play(alloc: Global, words: &mut Words) -> Result<Said, Unread>
     ensures { Reads result (play_at words.old) words.new }
 {
     let lane = words.lane()?;
-    let rope = words.rope()?;
+    let rope = words.rope(alloc)?;
     let start = words.count()?;
     let len = words.count()?;
-    let file = words.file()?;
+    let file = words.file(alloc)?;
     Ok(Said {
         verb: Verb::Play(lane, rope, start, len),
         file: Some(file),
@@ -176,11 +178,11 @@ fn play(words: &mut Words) -> Result<Said, Unread>
 }
 
 #[tactic(auto, unfolding(crate::specs::Arguments::serve_at))]
-fn serve(words: &mut Words) -> Result<Said, Unread>
+fn serve(alloc: Global, words: &mut Words) -> Result<Said, Unread>
     ensures { Reads result (serve_at words.old) words.new }
 {
     let lane = words.lane()?;
-    let file = words.file()?;
+    let file = words.file(alloc)?;
     Ok(Said {
         verb: Verb::Serve(lane),
         file: Some(file),
@@ -205,12 +207,12 @@ fn begin(words: &mut Words) -> Result<Said, Unread>
 }
 
 #[tactic(auto, unfolding(crate::specs::Arguments::add_at))]
-fn add(words: &mut Words, samples: &Samples) -> Result<Said, Unread>
+fn add(alloc: Global, words: &mut Words, samples: &Samples) -> Result<Said, Unread>
     requires { length samples.now < 2 ^ 32 }
     ensures { Reads result (add_at samples.now words.old) words.new }
 {
     let lane = words.lane()?;
-    let file = words.file()?;
+    let file = words.file(alloc)?;
     let tape = samples.tape_of(&file);
     Ok(Said {
         verb: Verb::Add(lane, tape),
@@ -228,11 +230,21 @@ fn end(words: &mut Words) -> Result<Said, Unread>
 }
 
 #[tactic(auto, unfolding(crate::specs::Arguments::levels_at))]
-fn levels(words: &mut Words) -> Result<Said, Unread>
+fn levels(alloc: Global, words: &mut Words) -> Result<Said, Unread>
     ensures { Reads result (levels_at words.old) words.new }
 {
-    let rope = words.rope()?;
+    let rope = words.rope(alloc)?;
     Ok(just(Verb::Levels(rope)))
+}
+
+// What was said, where no word is left.
+fn whole(said: Said, words: &mut Words) -> Result<Said, Unread>
+    ensures { Says result (whole (Some (said, words.old))) }
+{
+    if words.word().is_none() {
+        return Ok(said);
+    }
+    Err(Unread::Arguments)
 }
 
 /// What the words say behind the verb, all of them.
@@ -247,30 +259,26 @@ pub fn read_said(
     ensures { Says result (said_of samples.now name words.old) }
 {
     let said = match name {
-        VerbName::Record => record(words, samples),
+        VerbName::Record => record(alloc, words, samples),
         VerbName::Concat => concat(alloc, words),
-        VerbName::Sub => sub(words),
-        VerbName::Replace => replace(words),
-        VerbName::Length => length(words),
-        VerbName::Retain => retain(words),
-        VerbName::Forget => forget(words),
-        VerbName::Lookup => lookup(words),
+        VerbName::Sub => sub(alloc, words),
+        VerbName::Replace => replace(alloc, words),
+        VerbName::Length => length(alloc, words),
+        VerbName::Retain => retain(alloc, words),
+        VerbName::Forget => forget(alloc, words),
+        VerbName::Lookup => lookup(alloc, words),
         VerbName::Census => census(alloc, words),
         VerbName::Advance => advance(words),
         VerbName::Sweep => sweep(words),
-        VerbName::Describe => describe(words),
-        VerbName::Queue => queue(words),
-        VerbName::Play => play(words),
-        VerbName::Serve => serve(words),
+        VerbName::Describe => describe(alloc, words),
+        VerbName::Queue => queue(alloc, words),
+        VerbName::Play => play(alloc, words),
+        VerbName::Serve => serve(alloc, words),
         VerbName::Stop => stop(words),
         VerbName::Begin => begin(words),
-        VerbName::Add => add(words, samples),
+        VerbName::Add => add(alloc, words, samples),
         VerbName::End => end(words),
-        VerbName::Levels => levels(words),
+        VerbName::Levels => levels(alloc, words),
     };
-    let said = said?;
-    if words.word().is_some() {
-        return Err(Unread::Arguments);
-    }
-    Ok(said)
+    whole(said?, words)
 }

@@ -1,7 +1,7 @@
 //! Reading a script, line by line.
 
-ghost use Rattle.std.specs.Prelude.{OnOk, IfErr, IfOk, ◌+◌, ◌≡◌, ℕ, ◌<◌, ◌≤◌, ◌^◌, length, max};
-ghost use Rattle.script_lang.specs.Words.{lines_of};
+ghost use Rattle.std.specs.Prelude.{true, OnOk, IfErr, IfOk, ◌+◌, ◌≡◌, ℕ, ◌<◌, ◌≤◌, ◌^◌, length, max};
+ghost use Rattle.script_lang.specs.Words.{lines_of, is_plain};
 ghost use Rattle.script_lang.specs.Verbs.{is_built_verb, verbs_of};
 ghost use Rattle.script_lang.specs.Parts.{empty_script};
 ghost use Rattle.script_lang.specs.Reading.{Adds, line_read, step, read_lines, Parses};
@@ -15,9 +15,9 @@ use crate::owners::Owners;
 use crate::phrases::Said;
 use crate::samples::Samples;
 use crate::scripts::{Cause, Line, Script, ScriptError};
-use crate::sentence::{Refusal, Spoken, read_spoken, served};
+use crate::sentence::{Refusal, Spoken, is_known, read_spoken, served};
 use crate::verbs::Built;
-use crate::words::{Words, cut_line, is_plain, trimmed};
+use crate::words::{Words, cut_line, is_clean, is_plain_or_known, trimmed};
 use std::alloc::Global;
 use std::marker::Model;
 
@@ -76,7 +76,8 @@ impl Reader {
             return Err(Refusal::Bad(Cause::LaneTaken));
         }
         let lane = served(&verb);
-        self.samples.mention(sample)?;
+        let known = is_known(&verb, self.samples.count());
+        self.samples.mention(sample, known)?;
         self.lines.push(Line {
             number,
             caller,
@@ -89,10 +90,18 @@ impl Reader {
         Ok(())
     }
 
-    // Adds line `number`.
+    // Adds line `number`. That it is plain may be known.
     #[tactic(auto, unfolding(crate::specs::Reading::step))]
-    fn add(&mut self, alloc: Global, built: Built, number: u32, line: &[u8]) -> Result<(), Refusal>
-        requires { length self.old.samples < 2 ^ 32 }
+    fn add(
+        &mut self,
+        alloc: Global,
+        built: Built,
+        number: u32,
+        line: &[u8],
+        clean: bool,
+    ) -> Result<(), Refusal>
+        requires few { length self.old.samples < 2 ^ 32 }
+        requires clean { clean ≡ true → is_plain line.now ≡ true }
         ensures read { Adds result (step (verbs_of built) number self.old line.now) self.new }
         ensures grows { length self.new.samples ≤ length self.old.samples + 1 }
         ensures few { OnOk result (number ≤ 65535) }
@@ -103,7 +112,7 @@ impl Reader {
         if Words::new(line).are_quiet() {
             return Ok(());
         }
-        if !is_plain(line) {
+        if !is_plain_or_known(line, clean) {
             return Err(Refusal::Bad(Cause::Bytes));
         }
         self.speak(alloc, built, number, line)
@@ -134,12 +143,13 @@ fn read_script(alloc: Global, bytes: &[u8], built: Built) -> Result<Script, Scri
     ensures { Parses result (read_lines (verbs_of built) 1 empty_script (lines_of bytes.now)) }
 {
     let mut reader = Reader::new(alloc);
+    let clean = is_clean(bytes);
     let mut number = 0;
     let mut rest = bytes;
     'lines: while !rest.is_empty() {
         let (line, more) = cut_line(rest);
         number += 1;
-        match reader.add(alloc, built, number, trimmed(line)) {
+        match reader.add(alloc, built, number, trimmed(line), clean) {
             Ok(()) => {}
             Err(Refusal::Bad(cause)) => return Err(ScriptError::BadLine(number, cause)),
             Err(Refusal::NoMemory) => return Err(ScriptError::NoMemory),

@@ -1,10 +1,10 @@
 //! The sample files of a script, by first mention.
 
-ghost use Rattle.std.specs.Prelude.{◌≡◌, ℕ, [], ◌+◌, ◌≤◌, ◌<◌, ◌^◌, length, IfOk, OnOk};
+ghost use Rattle.std.specs.Prelude.{◌≡◌, ℕ, [], true, ◌+◌, ◌≤◌, ◌<◌, ◌^◌, length, IfOk, OnOk};
 ghost use Rattle.script_lang.specs.Samples.{place_of, tape_of};
 ghost use Rattle.script_lang.specs.Parts.{mention};
 
-use crate::keys::NameKey;
+use crate::labels::Label;
 use indexmap::IndexSet;
 use std::alloc::Global;
 use std::marker::Model;
@@ -13,7 +13,7 @@ use voice_units::{Name, NoMemory};
 /// The sample files that lines named so far, each once, in the order of their first mention.
 #[derive(Drop)]
 pub struct Samples {
-    names: IndexSet<NameKey>,
+    names: IndexSet<Label>,
 }
 
 impl Model for Samples {
@@ -36,22 +36,33 @@ impl Samples {
 
     /// The number of the tape of a sample file: its place, or the next one.
     #[tactic(auto, using(crate::proofs::Names::place_is))]
-    pub fn tape_of(&self, name: &Name) -> u32
+    pub fn tape_of(&self, name: &Label) -> u32
         requires { length self.now < 2 ^ 32 }
         ensures { result ≡ tape_of self.now name.now }
     {
-        let place = self.names.get_index_of(&NameKey::of(name));
+        let place = self.names.get_index_of(name);
         place.unwrap_or(self.names.len()) as u32
     }
 
-    /// Adds a sample file, if it is new.
+    /// How many there are.
+    pub fn count(&self) -> usize
+        ensures { result ≡ length self.now }
+    {
+        self.names.len()
+    }
+
+    /// Adds a sample file, if it is new. One that is known needs no look-up.
     #[tactic(auto, using(crate::proofs::Names::mention_is, crate::proofs::Names::mention_grows))]
-    pub fn mention(&mut self, name: Option<Name>) -> Result<(), NoMemory>
+    pub fn mention(&mut self, name: Option<Label>, known: bool) -> Result<(), NoMemory>
+        requires { known ≡ true → mention self.old name ≡ self.old }
         ensures ok { OnOk result (self.new ≡ mention self.old name) }
         ensures grows { length self.new ≤ length self.old + 1 }
     {
+        if known {
+            return Ok(());
+        }
         if let Some(name) = name {
-            self.names.insert(NameKey::of(&name))?;
+            self.names.insert(name)?;
         }
         Ok(())
     }

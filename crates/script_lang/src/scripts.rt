@@ -3,15 +3,16 @@
 ghost use Rattle.std.specs.Prelude.{◌≡◌};
 ghost use Rattle.script_lang.specs.declared.scripts.ScriptError.TheVariants as errors;
 
+use crate::labels::{Boxed, Label};
 use std::marker::Model;
-use voice_model::{Class, Key, KeyList, Note};
+use voice_model::{Class, KeyList, Note};
 use voice_units::{Lane, Moment, Name, NoMemory, RopeId};
 
 /// A rope in a script: by number, or by a variable.
-#[derive(Clone, Copy, Debug, PartialEq, Eq)]
+#[derive(Drop)]
 pub enum RopeArg {
     Id(RopeId),
-    Var(Name),
+    Var(Label),
 }
 
 /// Ropes in a script.
@@ -43,17 +44,17 @@ impl ArgList {
     }
 }
 
-/// What a line asks for.
+/// What a line asks for. What only rare verbs have lies in memory of its own, so that each line stays small.
 #[derive(Drop)]
 pub enum Verb {
     Record(u32),
     Concat(ArgList),
     Sub(RopeArg, u32, u32),
-    Replace(RopeArg, u32, u32, RopeArg),
+    Replace(RopeArg, u32, u32, Boxed<RopeArg>),
     Length(RopeArg),
-    Retain(Class, Key, RopeArg, Note),
-    Forget(Class, Key),
-    Lookup(Class, Key),
+    Retain(Class, Boxed<Label>, RopeArg, Boxed<Note>),
+    Forget(Class, Label),
+    Lookup(Class, Label),
     Census(KeyList),
     Advance(Moment),
     Sweep(u16),
@@ -73,9 +74,9 @@ pub enum Verb {
 pub struct Line {
     pub number: u32,
     pub caller: u16,
-    pub bind: Option<Name>,
+    pub bind: Option<Label>,
     pub verb: Verb,
-    pub file: Option<Name>,
+    pub file: Option<Label>,
 }
 
 /// The lines of a script, the sample files by first mention, and the greatest caller.

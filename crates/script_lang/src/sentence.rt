@@ -1,14 +1,15 @@
 //! What a line says: its caller, what it binds, and its verb with the arguments.
 
-ghost use Rattle.std.specs.Prelude.{Some, None, ◌≡◌, ℕ, ◌<◌, ◌^◌, length, MatchOption};
+ghost use Rattle.std.specs.Prelude.{◌≡◌, ℕ, ◌<◌, ◌^◌, length};
 ghost use Rattle.script_lang.specs.Arguments.{Reads};
 ghost use Rattle.script_lang.specs.Verbs.{verbs_of};
-ghost use Rattle.script_lang.specs.Parts.{bind_at, is_bound, binds_well, served};
+ghost use Rattle.script_lang.specs.Parts.{binds_well, is_known, served};
 ghost use Rattle.script_lang.specs.Reading.{Speaks, caller_of, caller_at, verb_of, name_at, Binds, now_of, as_cause, spoken_of};
 ghost use Rattle.script_lang.specs.declared.sentence.Refusal.TheVariants as refusals;
 
 use crate::arguments::Unread;
 use crate::forms::is_var;
+use crate::labels::Label;
 use crate::numbers::number;
 use crate::phrases::{Said, read_said};
 use crate::samples::Samples;
@@ -16,13 +17,13 @@ use crate::scripts::{Cause, Verb};
 use crate::verbs::{Built, VerbName};
 use crate::words::Words;
 use std::alloc::{AllocFailed, Global};
-use voice_units::{Lane, Name, NoMemory};
+use voice_units::{Lane, NoMemory};
 
 /// What a line says.
 #[derive(Drop)]
 pub struct Spoken {
     pub caller: u16,
-    pub bind: Option<Name>,
+    pub bind: Option<Label>,
     pub said: Said,
 }
 
@@ -105,45 +106,19 @@ impl<'a> Words<'a> {
             None => Err(Unread::Arguments),
         }
     }
-
-    // Whether the second word is `=`.
-    fn is_bound(&self) -> bool
-        ensures { result ≡ is_bound self.now }
-    {
-        match self.second() {
-            Some(sign) => sign == b"=".as_slice(),
-            None => false,
-        }
-    }
-
-    // The word to bind, where the one behind it is `=`.
-    #[tactic(auto, unfolding(crate::specs::Parts::bind_at))]
-    fn bind(&mut self) -> Option<&'a [u8]>
-        ensures rest { (bind_at self.old).1 ≡ self.new }
-        ensures word { MatchOption result ((bind_at self.old).0 ≡ None) (λ w. (bind_at self.old).0 ≡ Some w.now) }
-    {
-        if !self.is_bound() {
-            return None;
-        }
-        let word = self.word();
-        let _ = self.word();
-        word
-    }
 }
 
 // The variable to bind, where the verb binds.
-fn bound(name: VerbName, word: Option<&[u8]>) -> Result<Option<Name>, Cause>
+fn bound(alloc: Global, name: VerbName, word: Option<&[u8]>) -> Result<Option<Label>, Refusal>
     ensures { Binds result name (now_of word.entry) }
 {
     match word {
         Some(word) => {
             if !is_var(word) || !name.binds() {
-                return Err(Cause::Bind);
+                return Err(Refusal::Bad(Cause::Bind));
             }
-            let Ok(name) = Name::new(word) else {
-                unreachable!();
-            };
-            Ok(Some(name))
+            let label = Label::new(alloc, word)?;
+            Ok(Some(label))
         }
         None => Ok(None),
     }
@@ -173,9 +148,21 @@ pub fn read_spoken(
         Ok(said) => said,
         Err(unread) => return Err(unread.as_cause(Cause::Arguments)),
     };
-    match bound(name, bind) {
+    match bound(alloc, name, bind) {
         Ok(bind) => Ok(Spoken { caller, bind, said }),
-        Err(cause) => Err(Refusal::Bad(cause)),
+        Err(Refusal::Bad(cause)) => Err(Refusal::Bad(cause)),
+        Err(Refusal::NoMemory) => Err(Refusal::NoMemory),
+    }
+}
+
+// Whether the verb names a tape, and its number is below the count.
+pub fn is_known(verb: &Verb, count: usize) -> bool
+    ensures { result ≡ is_known verb.now count }
+{
+    match verb {
+        Verb::Record(tape) => (*tape as usize) < count,
+        Verb::Add(_, tape) => (*tape as usize) < count,
+        _ => false,
     }
 }
 

@@ -175,6 +175,7 @@ fn a_days_lines(rt: HostRuntime) {
     assert!(rt; line.number == 9 && line.caller == 2 && line.bind.is_none());
     assert!(rt;
         line.file
+            .as_ref()
             .is_some_and(|name| name.bytes() == b"p2".as_slice())
     );
     assert!(rt;

@@ -7,12 +7,13 @@ ghost use Rattle.script_lang.specs.Grammar.{verb_name};
 ghost use Rattle.script_lang.specs.Errands.{meant, asked, errand_of, HasTape, SameValues, IsBuiltAlike, IsAskedOf};
 
 use crate::keys::NameKey;
+use crate::labels::Label;
 use crate::scripts::{Line, RopeArg, Verb};
 use indexmap::IndexMap;
 use std::alloc::Global;
 use std::marker::Model;
 use voice_model::{Call, Key, KeyList, Reply, RopeList, Tapes};
-use voice_units::{Name, NoMemory, RopeId};
+use voice_units::{NoMemory, RopeId};
 
 /// The variables of one caller and their ropes. Contracts see the list of its bindings.
 #[derive(Drop)]
@@ -57,7 +58,7 @@ impl Env {
         ensures ok { (variables : List Binding) → SameValues self.old variables → OnOk result (SameValues self.new (bound line.now.bind (bound_rope reply.now) variables)) }
         ensures err { OnErr result (self.new ≡ self.old) }
     {
-        let Some(name) = line.bind else {
+        let Some(name) = &line.bind else {
             return Ok(());
         };
         let Some(rope) = given(reply) else {
@@ -67,17 +68,17 @@ impl Env {
     }
 
     #[tactic(auto, using(crate::proofs::Asking::set_is))]
-    fn set(&mut self, name: Name, rope: RopeId) -> Result<(), NoMemory>
-        ensures ok { OnOk result (Sets self.old name rope self.new) }
+    fn set(&mut self, name: &Label, rope: RopeId) -> Result<(), NoMemory>
+        ensures ok { OnOk result (Sets self.old name.now rope self.new) }
         ensures err { OnErr result (self.new ≡ self.old) }
     {
-        self.ropes.insert(NameKey::of(&name), rope)?;
+        self.ropes.insert(NameKey::of(name), rope)?;
         Ok(())
     }
 
     // The rope of a variable, 0 where no reply set it.
     #[tactic(auto, using(crate::proofs::Asking::value_is))]
-    fn value(&self, name: &Name) -> RopeId
+    fn value(&self, name: &Label) -> RopeId
         ensures { result ≡ value_of self.now name.now }
     {
         match self.ropes.get(&NameKey::of(name)) {
@@ -123,14 +124,14 @@ fn call_of(alloc: Global, line: &Line, env: &Env, tapes: &Tapes) -> Result<Optio
         Verb::Concat(args) => Call::Concat(env.all_meant(alloc, args.items())?),
         Verb::Sub(rope, start, len) => Call::Sub(env.meant(rope), *start, *len),
         Verb::Replace(rope, start, len, with) => {
-            Call::Replace(env.meant(rope), *start, *len, env.meant(with))
+            Call::Replace(env.meant(rope), *start, *len, env.meant(with.get()))
         }
         Verb::Length(rope) => Call::Length(env.meant(rope)),
         Verb::Retain(class, key, rope, note) => {
-            Call::Retain(*class, *key, env.meant(rope), *note)
+            Call::Retain(*class, key.get().key(), env.meant(rope), *note.get())
         }
-        Verb::Forget(class, key) => Call::Forget(*class, *key),
-        Verb::Lookup(class, key) => Call::Lookup(*class, *key),
+        Verb::Forget(class, key) => Call::Forget(*class, key.key()),
+        Verb::Lookup(class, key) => Call::Lookup(*class, key.key()),
         Verb::Census(keys) => Call::Census(copied(alloc, keys.items())?),
         Verb::Advance(moment) => Call::Advance(*moment),
         Verb::Sweep(limit) => Call::Sweep(*limit),

@@ -36,7 +36,6 @@ pub fn take_turns<R: Wait>(rt: &R, hall: &Hall<Tally>, pass: &mut Pass<Tally>, t
     }
 }
 
-#[tactic(auto, using(crate::proofs::Everyone::all_of_every, crate::proofs::Everyone::every_of_all))]
 /// Turns of all callers, each on a thread of its own where one can be made.
 pub fn run_all<R: Threads + Wait + Sync>(
     rt: &R,

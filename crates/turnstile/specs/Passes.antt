@@ -1,5 +1,5 @@
 -- What contracts see of a turnstile and its passes.
-use Rattle.std.specs.Prelude.{ℕ, suc, ◌≡◌, ◌<◌, ◌≤◌, List, [], ◌∷◌, ◌++◌, length, drop, Some, None}
+use Rattle.std.specs.Prelude.{ℕ, suc, ◌≡◌, ◌<◌, ◌≤◌, List, [], ◌∷◌, ◌++◌, length, drop, All, Some, None}
 use Rattle.voice_model.specs.declared.calls.Entry.{Entry}
 use Rattle.turnstile.specs.declared.view.Stage.TheVariants.{Outside, Entered}
 use Rattle.turnstile.specs.declared.view.Old.{Old}
@@ -55,7 +55,11 @@ module _ {T O : Type 0} where
 
   -- passes of this turnstile, each outside
   abbrev pub AreOf : Turnstile T O → List (Pass T O) → Type 0
-  AreOf t passes = Every (λ p. IsOf t p × IsOutside p) passes
+  AreOf t passes = All (λ p. IsOf t p × IsOutside p) passes
+
+  -- the same, pass by pass
+  abbrev pub EachIsOf : Turnstile T O → List (Pass T O) → Type 0
+  EachIsOf t passes = Every (λ p. IsOf t p × IsOutside p) passes
 
   -- what the passes saw begins the value's history, and what each did is all that the history has of its caller since the start
   abbrev pub AllStandIn : (T → List Entry) → Turnstile T O → T → List (Pass T O) → Type 0

@@ -1,7 +1,7 @@
 // How a turnstile is made and closed.
 ghost use Rattle.std.specs.Prelude.{◌≡◌, ◌+◌, ◌<◌, ◌≤◌, [], ◌∷◌, ◌++◌, suc, length, vec_len, vec_capacity, IfOk, IfErr};
 ghost use Rattle.turnstile.specs.Turns.{Every, StandsIn, IsOfPasses, met, with_olds};
-ghost use Rattle.turnstile.specs.Passes.{made_with, callers_of, seen, mine, IsOf, IsOutside, IsNew, IsLead, AreNewFrom, AreOf, AllStandIn, IsLast, gathered};
+ghost use Rattle.turnstile.specs.Passes.{made_with, callers_of, seen, mine, IsOf, IsOutside, IsNew, IsLead, AreNewFrom, AreOf, EachIsOf, AllStandIn, IsLast, gathered};
 
 use crate::parts::{Pass, Turnstile};
 use crate::plays::{Meet, OneMore};
@@ -45,6 +45,7 @@ impl<T: Stands> Turnstile<T> {
         requires callers { (0 < callers) × (callers ≤ 16) }
         requires stands { T.stands value }
         ensures ok { IfOk result (λ r. (made_with r.0 ≡ value) × (callers_of r.0 ≡ callers) × (length r.1.items ≡ callers) × AreNewFrom T.history r.0 1 r.1.items) }
+        ensures of { IfOk result (λ r. AreOf r.0 r.1.items) }
         ensures err { IfErr result (λ r. r.1 ≡ value) }
     {
         let Ok(mut passes) = Vec::with_capacity(alloc, usize::from(callers)) else {
@@ -143,7 +144,7 @@ impl<T: Stands> Turnstile<T> {
     // The pass takes the others in.
     fn gather(&self, lead: &mut Pass<T>, mut passes: Vec<Pass<T>>)
         requires lead { IsOf self.now lead.old × IsOutside lead.old }
-        requires of { AreOf self.now passes.items }
+        requires of { EachIsOf self.now passes.items }
         ensures same { (lead.new.caller ≡ lead.old.caller) × (lead.new.seat.table_id ≡ lead.old.seat.table_id) }
         ensures all { lead.new.seat.me ≡ (with_olds (gathered lead.old.seat.me.0.olds passes.items) lead.old.seat.me.0, []) }
     {

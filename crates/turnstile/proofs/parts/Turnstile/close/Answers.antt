@@ -2,8 +2,8 @@ use Rattle.std.proofs.Common.{ℕ, List, [], ◌∷◌, length, sym, ap, subst, 
 use Rattle.voice_model.specs.declared.calls.Entry.{Entry}
 use Rattle.turnstile.specs.declared.view.Old.{Old}
 use Rattle.turnstile.specs.Turns.{StandsIn, Every}
-use Rattle.turnstile.specs.Passes.{AreOf, IsOf, IsOutside, gathered, seen, mine}
-use Rattle.turnstile.proofs.Many.{every_front, every_snoc, gathered_all, gathered_long, olds_after, stand_by_views}
+use Rattle.turnstile.specs.Passes.{gathered, seen, mine}
+use Rattle.turnstile.proofs.Many.{each_of, every_snoc, gathered_all, gathered_long, olds_after, stand_by_views}
 use Rattle.turnstile.proofs.parts.Turnstile.close.Goals as goal
 
 pub finish-requires-clause-all : goal.finish-requires-clause-all
@@ -24,7 +24,16 @@ returns-clause-passes g c =
     let log = g.T.Stands.history c.finish.result in
     let o = olds_after c.gather.new.lead.seat.me lead.seat.me.0 (gathered lead.seat.me.0.olds rest) c.gather.ensures.all in
     let olds = gathered_all (λ (o : Old). StandsIn start log o.caller o.seen o.mine) lead.seat.me.0.olds rest (subst (Every (λ (o : Old). StandsIn start log o.caller o.seen o.mine)) o.0 c.finish.ensures.olds) in
-    let of = every_front (λ p. IsOf c.args.self p × IsOutside p) rest lead (subst (AreOf c.args.self) c.in-Some.ensures.items c.requires.of) in
+    let of = each_of c.args.self c.args.passes.items rest lead c.requires.of c.in-Some.ensures.items in
     let own : StandsIn start log lead.caller (seen lead) (mine lead) =
     subst (λ (by : ℕ). StandsIn start log by (seen lead) (mine lead)) c.gather.ensures.same.0 (subst (λ (x : List Entry). StandsIn start log c.gather.new.lead.caller x (mine lead)) o.1 (subst (λ (x : List Entry). StandsIn start log c.gather.new.lead.caller (seen c.gather.new.lead) x) o.2 c.finish.ensures.own)) in
     subst (Every (λ p. StandsIn start log p.caller (seen p) (mine p))) (sym c.in-Some.ensures.items) (every_snoc (λ p. StandsIn start log p.caller (seen p) (mine p)) rest lead (stand_by_views c.args.self start log rest of.0 olds) own)
+
+pub gather-requires-clause-lead : goal.gather-requires-clause-lead
+gather-requires-clause-lead g c κs within =
+    let of = each_of c.args.self c.args.passes.items c.pop.new.self.items c.in-Some.lead c.requires.of c.in-Some.ensures.items in
+    (of.1, of.2)
+
+pub gather-requires-clause-of : goal.gather-requires-clause-of
+gather-requires-clause-of g c κs within =
+    (each_of c.args.self c.args.passes.items c.pop.new.self.items c.in-Some.lead c.requires.of c.in-Some.ensures.items).0

@@ -4,7 +4,7 @@ use Rattle.atomic_table.specs.Table.{Me}
 use Rattle.turnstile.specs.declared.view.View.{View}
 use Rattle.turnstile.specs.declared.parts.Pass.{Pass}
 use Rattle.turnstile.specs.Turns.{with_olds}
-use Rattle.turnstile.specs.Passes.{AreOf, IsOf, IsOutside, gathered}
+use Rattle.turnstile.specs.Passes.{EachIsOf, IsOf, IsOutside, gathered}
 use Rattle.turnstile.proofs.Many.{every_front, lead_after, met_after}
 use Rattle.turnstile.proofs.parts.Turnstile.gather.Goals as goal
 
@@ -19,7 +19,7 @@ meet-requires-clause-lead g c κs within =
 pub meet-requires-clause-other : goal.meet-requires-clause-other
 meet-requires-clause-other g c κs within =
     let i = c.loop-pass.invariant in
-    (every_front (λ p. IsOf c.args.self.now p × IsOutside p) c.pop.new.self.items c.in-Some.pass (subst (AreOf c.args.self.now) c.in-Some.ensures.items i.5)).1
+    (every_front (λ p. IsOf c.args.self.now p × IsOutside p) c.pop.new.self.items c.in-Some.pass (subst (EachIsOf c.args.self.now) c.in-Some.ensures.items i.5)).1
 
 pub loop-pass-preserved : goal.loop-pass-preserved
 loop-pass-preserved g c =
@@ -30,7 +30,7 @@ loop-pass-preserved g c =
       e.same.0 ∙ i.2,
       e.same.1 ∙ i.3,
       met_after c.args.lead.now.seat.me.0 c.loop-pass.lead.seat.me.0 c.in-Some.pass.seat.me.0 c.meet.new.lead.seat.me (gathered c.args.lead.now.seat.me.0.olds i.0) (ap (λ (m : Me (Option g.row.T.Denot) (View g.row.T.Denot)). m.0) i.4) e.met,
-      (every_front (λ p. IsOf c.args.self.now p × IsOutside p) c.pop.new.self.items c.in-Some.pass (subst (AreOf c.args.self.now) c.in-Some.ensures.items i.5)).0,
+      (every_front (λ p. IsOf c.args.self.now p × IsOutside p) c.pop.new.self.items c.in-Some.pass (subst (EachIsOf c.args.self.now) c.in-Some.ensures.items i.5)).0,
     )
 
 pub returns-clause-same : goal.returns-clause-same
