@@ -1,0 +1,247 @@
+-- What becomes of the ropes, and of the order in which they are due, as one rope comes, goes or changes.
+use Rattle.std.proofs.Common.{◌≡◌, ℕ, zero, suc, ◌+◌, ◌<◌, ◌≤◌, List, [], ◌∷◌, length, map, get_or, Bool, true, false, not, ◌==◌, cond, nat_lt, Option, Some, None, refl, sym, ◌∙◌, ap, subst, arith}
+use Rattle.std.proofs.lemmas.Bool.{cond_both, false≢true, ltb-true, ltb-false, le-ltb, eqb-true, eqb-false, eq-eqb, ne_eqb}
+use Rattle.std.specs.List.{remove}
+use Rattle.std.specs.Prelude.{slice_get, slice_set, IsSome, IfSome, IfNone, OnSome, ◌↔◌, Result, Ok, Err, OnOk, OnErr}
+use Rattle.voice_units.specs.Blocks.{BlockPair}
+use Rattle.rope_table.specs.declared.ropes.Rope.{Rope}
+use Rattle.rope_table.specs.declared.dues.Due.{Due}
+use Rattle.rope_table.specs.Table.{is_sooner, is_lower, Every, IsInOrder, rope_of, with_rope, without_rope, with_due, due_of, index_of, uses_by, uses_in, pieces_in}
+use Rattle.rope_table.specs.Inside.{lies_below, place_of, IsAt}
+use Rattle.rope_table.proofs.InOrder.{split, in_order-remove, every_put, every_imp, put_swap, length-put, Apart}
+use Rattle.rope_table.proofs.ById.{changed, map_none, without_none, none_behind, not_here, place_more, place_none, if_id, rope_at_place, lower_apart, sooner_apart, sooner_through}
+
+-- ---- places
+
+pub get_is : {A : Type 0} (xs : List A) (i : ℕ) (x : A) → i < length xs → x ≡ get_or xs i x → slice_get xs i ≡ Some x
+get_is [] i x within e = absurd (omega arith)
+get_is (y ∷ ys) zero x within e = ap Some (sym e)
+get_is (y ∷ ys) (suc i) x within e = get_is ys i x (omega arith) e
+
+pub beyond_if : (i n : ℕ) → (i < n → false ≡ true) → n ≤ i
+beyond_if i n h = split (nat_lt i n) (λ e. absurd (false≢true (h (ltb-true i n e)))) (λ e. ltb-false i n e)
+
+pub get_none : {A : Type 0} (xs : List A) (i : ℕ) → length xs ≤ i → ◌≡◌ {A = Option A} (slice_get xs i) None
+get_none [] i beyond = refl
+get_none (y ∷ ys) zero beyond = absurd (omega arith)
+get_none (y ∷ ys) (suc i) beyond = get_none ys i (omega arith)
+
+-- the rope of another number stands at the place of a number that is not live
+pub not_live : (id : ℕ) (ropes : List Rope) (rope : Rope) → IsInOrder is_lower ropes → slice_get ropes (place_of (lies_below id) ropes) ≡ Some rope → (rope.id ≡ id → ⊥) → rope_of ropes id ≡ None
+not_live id ropes rope order at other = rope_at_place id ropes order ∙ ap (if_id id) at ∙ ap (λ b. cond b (Some rope) None) (ne_eqb rope.id id other)
+
+pub live_at : (id i : ℕ) (ropes : List Rope) (rope : Rope) → IsInOrder is_lower ropes → i ≡ place_of (lies_below id) ropes → i < length ropes → slice_get ropes i ≡ Some rope → rope.id ≡ id → IsAt ropes id i
+live_at id i ropes rope order place within at same =
+    let found : rope_of ropes id ≡ Some rope = rope_at_place id ropes order ∙ ap (λ k. if_id id (slice_get ropes k)) (sym place) ∙ ap (if_id id) at ∙ ap (λ b. cond b (Some rope) None) (eq-eqb rope.id id same) in
+    record { within = within; place = place; found = at ∙ sym found; some = subst IsSome (sym found) refl }
+
+pub beyond_all : (id i : ℕ) (ropes : List Rope) → IsInOrder is_lower ropes → i ≡ place_of (lies_below id) ropes → length ropes ≤ i → rope_of ropes id ≡ None
+beyond_all id i ropes order place beyond = rope_at_place id ropes order ∙ ap (λ k. if_id id (slice_get ropes k)) (sym place) ∙ ap (if_id id) (get_none ropes i beyond)
+
+-- ---- the rope of a number changes, or goes
+
+here : (id : ℕ) (rope : Rope) (ropes : List Rope) → rope.id ≡ id → rope_of (rope ∷ ropes) id ≡ Some rope
+here id rope ropes h = ap (λ b. cond b (Some rope) (rope_of ropes id)) (eq-eqb rope.id id h)
+
+one_of : (x y : Rope) → ◌≡◌ {A = Option Rope} (Some x) (Some y) → x ≡ y
+one_of x y e = cc
+
+three : {P : Type 0} (a b : ℕ) → (a < b → P) → (a ≡ b → P) → (b < a → P) → P
+three a b less same more = split (nat_lt a b) (λ e. less (ltb-true a b e)) (λ e. split (a == b) (λ f. same (eqb-true a b f)) (λ f. more (omega (arith, ltb-false a b e, eqb-false a b f))))
+
+no_rope : {P : Type 0} (rope : Rope) (o : Option Rope) → o ≡ Some rope → o ≡ None → P
+no_rope rope o e f = cc
+
+pub map_at : (id : ℕ) (g : Rope → Rope) (ropes : List Rope) (rope : Rope) → IsInOrder is_lower ropes → rope_of ropes id ≡ Some rope → map (changed id g) ropes ≡ slice_set ropes (place_of (lies_below id) ropes) (g rope)
+map_at id g [] rope order found = cc
+map_at id g (r ∷ ropes) rope order found =
+    three r.id id
+    (λ less.
+    ap (λ b. cond b (g r) r ∷ map (changed id g) ropes) (ne_eqb r.id id (λ e. omega (arith, e, less)))
+    ∙ ap (λ l. r ∷ l) (map_at id g ropes rope order.1 (sym (not_here id r ropes (λ e. omega (arith, e, less))) ∙ found))
+    ∙ sym (ap (λ i. slice_set (r ∷ ropes) i (g rope)) (place_more id r ropes less)))
+    (λ same.
+    ap (λ b. cond b (g r) r ∷ map (changed id g) ropes) (eq-eqb r.id id same)
+    ∙ ap (λ l. g r ∷ l) (map_none id g ropes (none_behind id r ropes (omega (arith, same)) order.0))
+    ∙ ap (λ q. g q ∷ ropes) (one_of r rope (sym (here id r ropes same) ∙ found))
+    ∙ sym (ap (λ i. slice_set (r ∷ ropes) i (g rope)) (place_none id r ropes (omega (arith, same)))))
+    (λ more. no_rope rope (rope_of ropes id) (sym (not_here id r ropes (λ e. omega (arith, e, more))) ∙ found) (none_behind id r ropes (omega (arith, more)) order.0))
+
+abbrev kept_front : ℕ → Rope → List Rope → Bool → List Rope
+kept_front id r ropes b = cond (not b) (r ∷ without_rope id ropes) (without_rope id ropes)
+
+pub without_at : (id : ℕ) (ropes : List Rope) (rope : Rope) → IsInOrder is_lower ropes → rope_of ropes id ≡ Some rope → without_rope id ropes ≡ remove ropes (place_of (lies_below id) ropes)
+without_at id [] rope order found = cc
+without_at id (r ∷ ropes) rope order found =
+    three r.id id
+    (λ less.
+    ap (kept_front id r ropes) (ne_eqb r.id id (λ e. omega (arith, e, less)))
+    ∙ ap (λ l. r ∷ l) (without_at id ropes rope order.1 (sym (not_here id r ropes (λ e. omega (arith, e, less))) ∙ found))
+    ∙ sym (ap (remove (r ∷ ropes)) (place_more id r ropes less)))
+    (λ same.
+    ap (kept_front id r ropes) (eq-eqb r.id id same)
+    ∙ without_none id ropes (none_behind id r ropes (omega (arith, same)) order.0)
+    ∙ sym (ap (remove (r ∷ ropes)) (place_none id r ropes (omega (arith, same)))))
+    (λ more. no_rope rope (rope_of ropes id) (sym (not_here id r ropes (λ e. omega (arith, e, more))) ∙ found) (none_behind id r ropes (omega (arith, more)) order.0))
+
+found_at : (id i : ℕ) (ropes : List Rope) (rope : Rope) → IsAt ropes id i → rope ≡ get_or ropes i rope → rope_of ropes id ≡ Some rope
+found_at id i ropes rope at e = sym at.found ∙ get_is ropes i rope at.within e
+
+-- writing at the place of a number changes its rope
+pub set_is_map : (id i : ℕ) (g : Rope → Rope) (ropes : List Rope) (rope : Rope) → IsInOrder is_lower ropes → IsAt ropes id i → rope ≡ get_or ropes i rope → slice_set ropes i (g rope) ≡ map (changed id g) ropes
+set_is_map id i g ropes rope order at e =
+    ap (λ k. slice_set ropes k (g rope)) at.place ∙ sym (map_at id g ropes rope order (found_at id i ropes rope at e))
+
+without_found : (id i : ℕ) (ropes : List Rope) (o : Option Rope) → IsInOrder is_lower ropes → IsAt ropes id i → rope_of ropes id ≡ o → IsSome o → remove ropes i ≡ without_rope id ropes
+without_found id i ropes None order at e some = cc
+without_found id i ropes (Some rope) order at e some = ap (remove ropes) at.place ∙ sym (without_at id ropes rope order e)
+
+pub remove_is_without : (id i : ℕ) (ropes : List Rope) → IsInOrder is_lower ropes → IsAt ropes id i → remove ropes i ≡ without_rope id ropes
+remove_is_without id i ropes order at = without_found id i ropes (rope_of ropes id) order at refl at.some
+
+-- an insertion with room succeeds
+pub ok_part : {T E P : Type 0} (r : Result T E) (n m : ℕ) → OnOk r P → OnErr r (m ≤ n) → n < m → P
+ok_part (Ok v) n m p full room = p
+ok_part (Err e) n m p full room = absurd (omega arith)
+
+-- what a removal gives
+pub removed : (xs : List Rope) (i n : ℕ) (r : Option Rope) → (IsSome r ↔ (i < n)) → IfSome r (λ y. y ≡ get_or xs i y) → i < n → n ≡ length xs → r ≡ slice_get xs i
+removed xs i n None h v within e = absurd (false≢true (h.1 within))
+removed xs i n (Some y) h v within e = sym (get_is xs i y (omega arith) v)
+
+pub some_part : {A : Type 0} {P : Type 0} (r : Option A) (i n : ℕ) → (IsSome r ↔ (i < n)) → OnSome r P → i < n → P
+some_part None i n h p within = absurd (false≢true (h.1 within))
+some_part (Some y) i n h p within = p
+
+-- whether one was removed or not, the rest is in order
+pub order_left : {P : Type 0} (xs ys : List Due) (i : ℕ) (r : Option Due) → OnSome r (ys ≡ remove xs i) → IfNone r P → (P → ys ≡ xs) → IsInOrder is_sooner xs → IsInOrder is_sooner ys
+order_left xs ys i None p q f order = subst (λ (l : List Due). IsInOrder is_sooner l) (sym (f q)) order
+order_left xs ys i (Some due) p q f order = subst (λ (l : List Due). IsInOrder is_sooner l) (sym p) (in_order-remove is_sooner xs i order)
+
+put_front : (rope : Rope) (ropes : List Rope) → Every (λ other. is_lower rope other ≡ true) ropes → with_rope rope ropes ≡ rope ∷ ropes
+put_front rope [] all = refl
+put_front rope (r ∷ ropes) all = ap (λ b. cond b (rope ∷ r ∷ ropes) (r ∷ with_rope rope ropes)) all.0
+
+behind_all : (id : ℕ) (r new : Rope) (ropes : List Rope) → r.id ≡ id → new.id ≡ id → Every (λ other. is_lower r other ≡ true) ropes → Every (λ other. is_lower new other ≡ true) ropes
+behind_all id r new ropes e f all = every_imp (λ (other : Rope). is_lower r other ≡ true) (λ (other : Rope). is_lower new other ≡ true) (λ other h. ap (λ n. nat_lt n other.id) (f ∙ sym e) ∙ h) ropes all
+
+-- a rope that changes goes and comes again
+pub put_again : (id : ℕ) (g : Rope → Rope) (ropes : List Rope) (rope : Rope) → IsInOrder is_lower ropes → rope_of ropes id ≡ Some rope → (g rope).id ≡ id → map (changed id g) ropes ≡ with_rope (g rope) (without_rope id ropes)
+put_again id g [] rope order found named = cc
+put_again id g (r ∷ ropes) rope order found named =
+    three r.id id
+    (λ less.
+    ap (λ b. cond b (g r) r ∷ map (changed id g) ropes) (ne_eqb r.id id (λ e. omega (arith, e, less)))
+    ∙ ap (λ l. r ∷ l) (put_again id g ropes rope order.1 (sym (not_here id r ropes (λ e. omega (arith, e, less))) ∙ found) named)
+    ∙ sym (ap (λ b. cond b (g rope ∷ r ∷ without_rope id ropes) (r ∷ with_rope (g rope) (without_rope id ropes))) (le-ltb (g rope).id r.id (omega (arith, named, less))))
+    ∙ sym (ap (λ b. with_rope (g rope) (kept_front id r ropes b)) (ne_eqb r.id id (λ e. omega (arith, e, less)))))
+    (λ same.
+    let one = one_of r rope (sym (here id r ropes same) ∙ found) in
+    let none = none_behind id r ropes (omega (arith, same)) order.0 in
+    ap (λ b. cond b (g r) r ∷ map (changed id g) ropes) (eq-eqb r.id id same)
+    ∙ ap (λ l. g r ∷ l) (map_none id g ropes none)
+    ∙ ap (λ q. g q ∷ ropes) one
+    ∙ sym (put_front (g rope) ropes (behind_all id r (g rope) ropes same named order.0))
+    ∙ sym (ap (with_rope (g rope)) (ap (kept_front id r ropes) (eq-eqb r.id id same) ∙ without_none id ropes none)))
+    (λ more. no_rope rope (rope_of ropes id) (sym (not_here id r ropes (λ e. omega (arith, e, more))) ∙ found) (none_behind id r ropes (omega (arith, more)) order.0))
+
+abbrev pub itself : Rope → Rope
+itself rope = rope
+
+pub map_itself : (id : ℕ) (ropes : List Rope) → map (changed id itself) ropes ≡ ropes
+map_itself id [] = refl
+map_itself id (r ∷ ropes) = split (r.id == id)
+    (λ e. ap (λ b. cond b r r ∷ map (changed id itself) ropes) e ∙ ap (λ l. r ∷ l) (map_itself id ropes))
+    (λ e. ap (λ b. cond b r r ∷ map (changed id itself) ropes) e ∙ ap (λ l. r ∷ l) (map_itself id ropes))
+
+rope_of-id : (id : ℕ) (ropes : List Rope) (rope : Rope) → rope_of ropes id ≡ Some rope → rope.id ≡ id
+rope_of-id id [] rope found = cc
+rope_of-id id (r ∷ ropes) rope found = three r.id id
+    (λ less. rope_of-id id ropes rope (sym (not_here id r ropes (λ e. omega (arith, e, less))) ∙ found))
+    (λ same. ap (λ (q : Rope). q.id) (sym (one_of r rope (sym (here id r ropes same) ∙ found))) ∙ same)
+    (λ more. rope_of-id id ropes rope (sym (not_here id r ropes (λ e. omega (arith, e, more))) ∙ found))
+
+pub id_of : (id : ℕ) (ropes : List Rope) (rope : Rope) → rope_of ropes id ≡ Some rope → rope.id ≡ id
+id_of id ropes rope found = rope_of-id id ropes rope found
+
+-- the ropes are one of them and the others
+pub as_put : (id : ℕ) (ropes : List Rope) (rope : Rope) → IsInOrder is_lower ropes → rope_of ropes id ≡ Some rope → ropes ≡ with_rope rope (without_rope id ropes)
+as_put id ropes rope order found = sym (map_itself id ropes) ∙ put_again id itself ropes rope order found (id_of id ropes rope found)
+
+-- ---- order
+
+every_map : (P Q : Rope → Type 0) (f : Rope → Rope) → ((x : Rope) → P x → Q (f x)) → (xs : List Rope) → Every P xs → Every Q (map f xs)
+every_map P Q f h [] all = tt
+every_map P Q f h (x ∷ xs) all = (h x all.0, every_map P Q f h xs all.1)
+
+pub in_order-map : (f : Rope → Rope) → ((r : Rope) → (f r).id ≡ r.id) → (xs : List Rope) → IsInOrder is_lower xs → IsInOrder is_lower (map f xs)
+in_order-map f same [] order = tt
+in_order-map f same (x ∷ xs) order =
+    (every_map (λ y. is_lower x y ≡ true) (λ y. is_lower (f x) y ≡ true) f (λ y h. ap (λ n. nat_lt n (f y).id) (same x) ∙ ap (λ n. nat_lt x.id n) (same y) ∙ h) xs order.0, in_order-map f same xs order.1)
+
+pub every_changed : (P : Rope → Type 0) (id : ℕ) (g : Rope → Rope) → ((x : Rope) → P x → P (g x)) → (xs : List Rope) → Every P xs → Every P (map (changed id g) xs)
+every_changed P id g h xs all = every_map P P (changed id g) (λ x p. cond_both (x.id == id) (g x) x P (λ e. h x p) (λ e. p)) xs all
+
+pub every_without : (P : Rope → Type 0) (id : ℕ) (xs : List Rope) → Every P xs → Every P (without_rope id xs)
+every_without P id [] all = tt
+every_without P id (x ∷ xs) all = cond_both (not (x.id == id)) (x ∷ without_rope id xs) (without_rope id xs) (Every P) (λ e. (all.0, every_without P id xs all.1)) (λ e. every_without P id xs all.1)
+
+pub in_order-without : (id : ℕ) (xs : List Rope) → IsInOrder is_lower xs → IsInOrder is_lower (without_rope id xs)
+in_order-without id [] order = tt
+in_order-without id (x ∷ xs) order = cond_both (not (x.id == id)) (x ∷ without_rope id xs) (without_rope id xs) (IsInOrder is_lower)
+    (λ e. (every_without (λ y. is_lower x y ≡ true) id xs order.0, in_order-without id xs order.1)) (λ e. in_order-without id xs order.1)
+
+elsewhere : (id : ℕ) (r : Rope) (ropes : List Rope) → rope_of (r ∷ ropes) id ≡ None → r.id ≡ id → ⊥
+elsewhere id r ropes none same = no_rope r (rope_of (r ∷ ropes) id) (here id r ropes same) none
+
+rest_none : (id : ℕ) (r : Rope) (ropes : List Rope) → rope_of (r ∷ ropes) id ≡ None → rope_of ropes id ≡ None
+rest_none id r ropes none = sym (not_here id r ropes (elsewhere id r ropes none)) ∙ none
+
+pub apart_from : (rope : Rope) (ropes : List Rope) → rope_of ropes rope.id ≡ None → Apart is_lower rope ropes
+apart_from rope [] none = tt
+apart_from rope (r ∷ ropes) none = (lower_apart rope r (λ e. elsewhere rope.id r ropes none (sym e)), apart_from rope ropes (rest_none rope.id r ropes none))
+
+-- ---- when they are due
+
+pub dues_apart : (due : Due) (ropes : List Rope) → rope_of ropes due.id ≡ None → Apart is_sooner due (index_of ropes)
+dues_apart due [] none = tt
+dues_apart due (r ∷ ropes) none =
+    let rest = dues_apart due ropes (rest_none due.id r ropes none) in
+    cond_both r.kept (index_of ropes) (with_due (due_of r) (index_of ropes)) (Apart is_sooner due) (λ e. rest)
+    (λ e. every_put (λ other. is_sooner other due ≡ not (is_sooner due other)) is_sooner (due_of r) (index_of ropes) (sooner_apart due (due_of r) (λ same. elsewhere due.id r ropes none (sym same))) rest)
+
+abbrev pub index_with : Rope → List Due → List Due
+index_with rope dues = cond rope.kept dues (with_due (due_of rope) dues)
+
+two_dues : (x y : Due) (b c : Bool) (dues : List Due) → (x.id ≡ y.id → ⊥) → cond b (cond c dues (with_due y dues)) (with_due x (cond c dues (with_due y dues))) ≡ cond c (cond b dues (with_due x dues)) (with_due y (cond b dues (with_due x dues)))
+two_dues x y true true dues apart = refl
+two_dues x y true false dues apart = refl
+two_dues x y false true dues apart = refl
+two_dues x y false false dues apart = put_swap is_sooner sooner_through x y (sooner_apart x y apart) dues
+
+pub index_of-with : (rope : Rope) (ropes : List Rope) → rope_of ropes rope.id ≡ None → index_of (with_rope rope ropes) ≡ index_with rope (index_of ropes)
+index_of-with rope [] none = refl
+index_of-with rope (r ∷ ropes) none =
+    cond_both (is_lower rope r) (rope ∷ r ∷ ropes) (r ∷ with_rope rope ropes) (λ l. index_of l ≡ index_with rope (index_of (r ∷ ropes)))
+    (λ e. refl)
+    (λ e. ap (index_with r) (index_of-with rope ropes (rest_none rope.id r ropes none))
+    ∙ two_dues (due_of r) (due_of rope) r.kept rope.kept (index_of ropes) (λ same. elsewhere rope.id r ropes none same))
+
+pub fewer_due : (ropes : List Rope) → length (index_of ropes) ≤ length ropes
+fewer_due [] = omega arith
+fewer_due (r ∷ ropes) =
+    let rest = fewer_due ropes in
+    cond_both r.kept (index_of ropes) (with_due (due_of r) (index_of ropes)) (λ l. length l ≤ length (r ∷ ropes)) (λ e. omega (arith, rest))
+    (λ e. omega (arith, rest, length-put is_sooner (due_of r) (index_of ropes)))
+
+-- ---- uses
+
+pub uses_with : (block : ℕ) (pair : BlockPair) (rope : Rope) (ropes : List Rope) → uses_in block (pieces_in (with_rope rope ropes)) pair ≡ uses_by block rope.pieces pair + uses_in block (pieces_in ropes) pair
+uses_with block pair rope [] = refl
+uses_with block pair rope (r ∷ ropes) =
+    let rest = uses_with block pair rope ropes in
+    cond_both (is_lower rope r) (rope ∷ r ∷ ropes) (r ∷ with_rope rope ropes) (λ l. uses_in block (pieces_in l) pair ≡ uses_by block rope.pieces pair + uses_in block (pieces_in (r ∷ ropes)) pair)
+    (λ e. refl) (λ e. omega (arith, rest))
+
+pub length-with : (rope : Rope) (ropes : List Rope) → length (with_rope rope ropes) ≡ suc (length ropes)
+length-with rope ropes = length-put is_lower rope ropes

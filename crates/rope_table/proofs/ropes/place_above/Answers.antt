@@ -1,0 +1,15 @@
+use Rattle.std.proofs.Common.{rules, arith}
+use Rattle.std.proofs.lemmas.List.Sorted.{IsPartitionPoint-from_clause}
+use Rattle.rope_table.specs.Table.{is_lower}
+use Rattle.rope_table.specs.Inside.{is_within}
+use Rattle.rope_table.proofs.InOrder.{at_partition, partitioned}
+use Rattle.rope_table.proofs.ById.{within_down}
+use Rattle.rope_table.proofs.ropes.place_above.Goals as goal
+
+pub returns : goal.returns
+returns c =
+    let ropes = c.args.ropes.now.items in
+    let test = is_within c.args.id in
+    at_partition test ropes c.partition_point.result (omega (arith, c.partition_point.ensures.bound, c.args.ropes.now.ok.0))
+    (IsPartitionPoint-from_clause test ropes c.partition_point.result c.partition_point.ensures.partitioned
+    (partitioned is_lower test (within_down c.args.id) ropes c.requires) (λ a r f' called. search rules))

@@ -1,0 +1,14 @@
+//! Live ropes by number, how many use each block, and the order in which they are due.
+#![tactic(auto)]
+
+mod counts;
+mod dues;
+mod ropes;
+mod table;
+#[cfg(test)]
+mod tests;
+
+pub use dues::Due;
+pub use rope_algebra::Pieces;
+pub use ropes::Rope;
+pub use table::RopeTable;

@@ -1,0 +1,213 @@
+//! The live ropes in rising number.
+
+ghost use Rattle.std.specs.Prelude.{◌≡◌, ◌<◌, ◌≤◌, None, IfOk, OnOk, IfSome, IfNone, length, option_copied, map, []};
+ghost use Rattle.rope_table.specs.Table.{rope_of, number_above, with_rope, without_rope, idled, held_back, is_lower, IsInOrder};
+ghost use Rattle.rope_table.specs.Inside.{place_of, lies_below, is_within, IsAt};
+
+use rope_algebra::Pieces;
+use std::alloc::Global;
+use std::collections::VecDeque;
+use std::marker::Model;
+use voice_units::{Moment, NoMemory, RopeId};
+
+/// A live rope.
+#[derive(Drop)]
+pub struct Rope {
+    pub id: RopeId,
+    pub pieces: Pieces,
+    /// The moment since which no row names it.
+    pub idle: Moment,
+    /// The class of the last row that it lost, 1 to 3, or 0.
+    pub last: u8,
+    /// How long it stays once it is idle.
+    pub wait: u32,
+    /// Whether a row names it.
+    pub kept: bool,
+}
+
+/// The live ropes in rising number. Contracts see the list, and how many fit without memory.
+#[derive(Drop)]
+pub(crate) struct LiveRopes {
+    ropes: VecDeque<Rope>,
+}
+
+impl Model for LiveRopes {
+    ghost use Rattle.std.specs.VecDeque.{deque_capacity};
+    ghost use Rattle.rope_table.specs.Table.{is_lower, IsInOrder};
+    ghost use Rattle.rope_table.specs.Inside.{Ropes};
+
+    ghost Value = { Ropes };
+
+    ghost view = { λ r. record { ropes = r.ropes.items; room = deque_capacity r.ropes } };
+
+    ghost invariant = { λ r. IsInOrder is_lower r.ropes.items };
+}
+
+/// How many ropes have a number below this one.
+fn place(ropes: &VecDeque<Rope>, id: u64) -> usize
+    requires { IsInOrder is_lower ropes.now.items }
+    ensures { result ≡ place_of (lies_below id) ropes.now.items }
+{
+    ropes.partition_point(|rope| rope.id.number() < id)
+}
+
+/// How many ropes have a number up to this one.
+fn place_above(ropes: &VecDeque<Rope>, id: u64) -> usize
+    requires { IsInOrder is_lower ropes.now.items }
+    ensures { result ≡ place_of (is_within id) ropes.now.items }
+{
+    ropes.partition_point(|rope| rope.id.number() <= id)
+}
+
+/// Equal ropes.
+fn copied(ropes: &VecDeque<Rope>) -> Result<VecDeque<Rope>, NoMemory>
+    ensures { IfOk result (λ copy. copy.items ≡ ropes.now.items) }
+{
+    let count = ropes.len();
+    let mut copy = VecDeque::with_capacity(*ropes.allocator(), count)?;
+    for k in 0..count {
+        let rope = &ropes[k];
+        let pieces = rope.pieces.copy()?;
+        copy.push_back(Rope {
+            id: rope.id,
+            pieces,
+            idle: rope.idle,
+            last: rope.last,
+            wait: rope.wait,
+            kept: rope.kept,
+        })?;
+    }
+    Ok(copy)
+}
+
+impl LiveRopes {
+    /// No rope. It takes no memory.
+    pub(crate) fn new(alloc: Global) -> LiveRopes
+        ensures { result.ropes ≡ [] }
+    {
+        LiveRopes {
+            ropes: VecDeque::new(alloc),
+        }
+    }
+
+    /// Equal ropes.
+    pub(crate) fn copy(&self) -> Result<LiveRopes, NoMemory>
+        ensures { IfOk result (λ copy. copy.ropes ≡ self.now.ropes) }
+    {
+        let ropes = copied(&self.ropes)?;
+        Ok(LiveRopes { ropes })
+    }
+
+    /// Makes room for one more rope.
+    pub(crate) fn reserve(&mut self) -> Result<(), NoMemory>
+        ensures ropes { self.new.ropes ≡ self.old.ropes }
+        ensures room { OnOk result (length self.new.ropes < self.new.room) }
+        ensures kept { self.old.room ≤ self.new.room }
+    {
+        self.ropes.reserve(1)?;
+        Ok(())
+    }
+
+    /// How many ropes there are.
+    pub(crate) fn count(&self) -> usize
+        ensures value { result ≡ length self.now.ropes }
+        ensures rising { IsInOrder is_lower self.now.ropes }
+    {
+        self.ropes.len()
+    }
+
+    /// How many ropes fit without memory.
+    pub(crate) fn room(&self) -> usize
+        ensures { result ≡ self.now.room }
+    {
+        self.ropes.capacity()
+    }
+
+    /// The rope of a number.
+    pub(crate) fn find(&self, id: RopeId) -> Option<&Rope>
+        ensures { option_copied result ≡ rope_of self.now.ropes id }
+    {
+        let Some(place) = self.place_of_live(id) else {
+            return None;
+        };
+        self.ropes.get(place)
+    }
+
+    /// The lowest number above this one.
+    pub(crate) fn after(&self, id: u64) -> Option<RopeId>
+        ensures { result ≡ number_above self.now.ropes id }
+    {
+        let Some(rope) = self.ropes.get(place_above(&self.ropes, id)) else {
+            return None;
+        };
+        Some(rope.id)
+    }
+
+    /// Puts in a rope that isn't there.
+    pub(crate) fn enter(&mut self, rope: Rope)
+        requires room { length self.old.ropes < self.old.room }
+        requires unknown { rope_of self.old.ropes rope.id ≡ None }
+        ensures ropes { self.new.ropes ≡ with_rope rope self.old.ropes }
+        ensures room { self.old.room ≤ self.new.room }
+    {
+        let place = place(&self.ropes, rope.id.number());
+        let _entered = self.ropes.insert(place, rope);
+    }
+
+    // The place of the rope of a number.
+    fn place_of_live(&self, id: RopeId) -> Option<usize>
+        ensures live { IfSome result (λ i. IsAt self.now.ropes id i) }
+        ensures none { IfNone result (rope_of self.now.ropes id ≡ None) }
+    {
+        let place = place(&self.ropes, id.number());
+        let Some(rope) = self.ropes.get(place) else {
+            return None;
+        };
+        if rope.id.number() != id.number() {
+            return None;
+        }
+        Some(place)
+    }
+
+    /// Takes out the rope of a number.
+    pub(crate) fn leave(&mut self, id: RopeId) -> Option<Rope>
+        ensures value { result ≡ rope_of self.old.ropes id }
+        ensures ropes { self.new.ropes ≡ without_rope id self.old.ropes }
+        ensures room { self.new.room ≡ self.old.room }
+    {
+        let Some(place) = self.place_of_live(id) else {
+            return None;
+        };
+        self.ropes.remove(place)
+    }
+
+    /// Since when the rope of a number is idle, the class of the last row that it lost, and how long it waits.
+    pub(crate) fn set_idle(&mut self, id: RopeId, idle: Moment, last: u8, wait: u32)
+        ensures ropes { self.new.ropes ≡ map (idled id idle last wait) self.old.ropes }
+        ensures room { self.new.room ≡ self.old.room }
+    {
+        let Some(place) = self.place_of_live(id) else {
+            return;
+        };
+        let Some(rope) = self.ropes.get_mut(place) else {
+            return;
+        };
+        rope.idle = idle;
+        rope.last = last;
+        rope.wait = wait;
+    }
+
+    /// Whether a row keeps the rope of a number.
+    pub(crate) fn keep(&mut self, id: RopeId, kept: bool)
+        ensures ropes { self.new.ropes ≡ map (held_back id kept) self.old.ropes }
+        ensures room { self.new.room ≡ self.old.room }
+    {
+        let Some(place) = self.place_of_live(id) else {
+            return;
+        };
+        let Some(rope) = self.ropes.get_mut(place) else {
+            return;
+        };
+        rope.kept = kept;
+    }
+}
