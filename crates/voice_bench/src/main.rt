@@ -1,15 +1,19 @@
 //! Measurements of the voice manager's parts, each as a ratio to the same work made bare, in one run.
 #![tactic(auto)]
 
+mod appends;
 mod copying;
+mod interests;
+mod loudness;
 mod parsing;
 mod report;
 mod turning;
 
 use std::alloc::AllocError;
 use std::env::{Env, args};
+use std::fs::File;
 use std::io;
-use std::rt::Clock;
+use std::rt::{Clock, Files};
 use std::sync::Wait;
 use std::thread::Threads;
 
@@ -18,10 +22,13 @@ voice_bench MEASUREMENT: prints figures of this machine.
   copy     a window of 16 KiB out of frames, against a plain copy of its bytes
   turns    turns a second with 1, 2, 4 and 16 callers
   parse    a script of 65,535 lines, against cutting its bytes into words
+  loud     loudness and talk of 1 MiB of samples, against a plain sum
+  rows     making and forgetting an interest, by the number of interests
+  appends  appends a second in memory and to a file of this folder, against bare calls
   all      each of these
 ";
 
-fn measure<R: Env + Print + Clock + AllocGlobal + Threads + Wait + Sync>(
+fn measure<R: Env + Print + Clock + AllocGlobal + Files<File = File> + Threads + Wait + Sync>(
     rt: &R,
     word: &str,
 ) -> io::Result<()> {
@@ -34,6 +41,15 @@ fn measure<R: Env + Print + Clock + AllocGlobal + Threads + Wait + Sync>(
     }
     if all || word == "parse" {
         parsing::measure(rt)?;
+    }
+    if all || word == "loud" {
+        loudness::measure(rt)?;
+    }
+    if all || word == "rows" {
+        interests::measure(rt)?;
+    }
+    if all || word == "appends" {
+        appends::measure(rt)?;
     }
     Ok(())
 }
