@@ -1,0 +1,10 @@
+//! The base of a durable part: the changes that rebuild it, as payloads for an area of the journal.
+#![tactic(auto)]
+
+mod blocks;
+mod compacting;
+mod files;
+mod putting;
+mod ropes;
+
+pub use compacting::compact;

@@ -1,0 +1,147 @@
+-- The blocks of pieces, one after another.
+use Rattle.std.proofs.Common.{◌≡◌, ℕ, zero, suc, ◌+◌, ◌-◌, ◌*◌, ◌/◌, ◌%◌, ◌≤◌, ◌<◌, ◌^◌, ◌==◌, nat_lt, Bool, true, false, cond, ◌&&◌, ◌||◌, List, [], ◌∷◌, ◌++◌, map, length, refl, sym, ◌∙◌, ap, subst, arith}
+use Rattle.std.specs.List.{list_all}
+use Rattle.std.proofs.Math.Nat.{div-eq_of_lt-le, div-lt_iff_lt-mul, div-mul-le_self}
+use Rattle.std.proofs.lemmas.Nat.{le-div}
+use Rattle.std.proofs.lemmas.Bool.{eqb-true, eq-eqb, ltb-true, leb-true}
+use Rattle.std.proofs.lemmas.List.Folds.{list_all-append}
+use Rattle.voice_units.specs.Spots.{Spot, spots_from, spots_of}
+use Rattle.std.specs.Prelude.{filter}
+use Rattle.voice_units.specs.Blocks.{BlockPair, pair_at, pairs_at, same_pair, has_pair, once, distinct}
+use Rattle.voice_units.specs.declared.pieces.Piece.{Piece}
+use Rattle.voice_units.proofs.Distinct.{has_pair-distinct}
+use Rattle.voice_units.proofs.PiecesOfRopes.{both}
+use Rattle.voice_model.specs.Spelling.{is_piece, are_pieces}
+use Rattle.voice_model.proofs.PlacesKept.{same_itself}
+use Rattle.voice_units.specs.Spots.{samples_in}
+use Rattle.rope_algebra.specs.Kept.{LieInFiles}
+use Rattle.rope_table.specs.Table.{uses_by, uses_in}
+
+-- a later place in front of the next block lies in the same block
+pub same_block : (block at x : ℕ) → 1 ≤ block → at ≤ x → x < at - at % block + block → x / block ≡ at / block
+same_block block at x some low high =
+    let whole : at / block * block + at % block ≡ at = grind arith in
+    let up : (at / block + 1) * block ≡ at / block * block + block = grind arith in
+    div-eq_of_lt-le block (omega (arith, whole, low)) (omega (arith, whole, up, high))
+
+pub each_passes : (p : BlockPair → Bool) (block file from n : ℕ) → ((x : ℕ) → from ≤ x → x < from + n → p (record { file = file; index = x / block }) ≡ true) → list_all p (pairs_at block (spots_from file from n)) ≡ true
+each_passes p block file from zero h = refl
+each_passes p block file from (suc n) h =
+    ap (λ b. b && list_all p (pairs_at block (spots_from file (from + 1) n))) (h from (omega arith) (omega arith))
+    ∙ each_passes p block file (from + 1) n (λ x low high. h x (omega (arith, low)) (omega (arith, high)))
+
+and_false : (a : Bool) → (a && false) ≡ false
+and_false true = refl
+and_false false = refl
+
+pub one_fails : (p : BlockPair → Bool) (block file from n x : ℕ) → from ≤ x → x < from + n → p (record { file = file; index = x / block }) ≡ false → list_all p (pairs_at block (spots_from file from n)) ≡ false
+one_fails p block file from zero x low high e = absurd (omega (arith, low, high))
+one_fails p block file from (suc n) x low high e =
+    first_or (from == x) refl (λ apart. one_fails p block file (from + 1) n x (omega (arith, low, apart)) (omega (arith, high)) e)
+  where
+    rest : List BlockPair
+    rest = pairs_at block (spots_from file (from + 1) n)
+
+    first_or : (b : Bool) → (from == x) ≡ b → (¬ (from ≡ x) → list_all p rest ≡ false) → list_all p (pairs_at block (spots_from file from (suc n))) ≡ false
+    first_or true k later = ap (λ b. b && list_all p rest) (ap (λ y. p (record { file = file; index = y / block })) (eqb-true from x k) ∙ e)
+    first_or false k later =
+        ap (λ b. p (record { file = file; index = from / block }) && b) (later (λ same. let bad : true ≡ false = sym (eq-eqb from x same) ∙ k in cc)) ∙ and_false (p (record { file = file; index = from / block }))
+
+pub either_side : (P : Type 0) (x at : ℕ) → (x < at → P) → (at ≤ x → P) → P
+either_side P x at below above = by_test (nat_lt x at) refl
+  where
+    by_test : (b : Bool) → nat_lt x at ≡ b → P
+    by_test true e = below (ltb-true x at e)
+    by_test false e = above (grind (arith, e))
+
+pub is_used : (n : ℕ) → ¬ (n ≡ 0) → nat_lt 0 n ≡ true
+is_used n h = grind (arith, h)
+
+pub small_index : (block at : ℕ) → 8 ≤ block → at < 2 ^ 33 → at / block < 2 ^ 32
+small_index block at some high = let k : 0 < block = omega (arith, some) in (div-lt_iff_lt-mul k).1 (omega (arith, some, high))
+
+pub pairs-append : (block : ℕ) (xs ys : List Spot) → pairs_at block (xs ++ ys) ≡ pairs_at block xs ++ pairs_at block ys
+pairs-append block [] ys = refl
+pairs-append block (x ∷ xs) ys = ap (λ l. pair_at block x ∷ l) (pairs-append block xs ys)
+
+pub all-append : (p : BlockPair → Bool) (block : ℕ) (xs ys : List Spot) → list_all p (pairs_at block (xs ++ ys)) ≡ (list_all p (pairs_at block xs) && list_all p (pairs_at block ys))
+all-append p block xs ys = ap (list_all p) (pairs-append block xs ys) ∙ list_all-append p (pairs_at block xs) (pairs_at block ys)
+
+pub same_all : {A : Type 0} (p q : A → Bool) → ((x : A) → p x ≡ q x) → (xs : List A) → list_all p xs ≡ list_all q xs
+same_all p q same [] = refl
+same_all p q same (x ∷ xs) = ap (λ b. b && list_all p xs) (same x) ∙ ap (λ b. q x && b) (same_all p q same xs)
+
+-- ---- how many blocks nothing uses yet
+
+-- no block of a list of used ones
+pub none_unused : (uses other : BlockPair → ℕ) → ((pair : BlockPair) → other pair ≡ uses pair) → (pairs : List BlockPair) → list_all (λ pair. nat_lt 0 (uses pair)) pairs ≡ true → filter (λ pair. other pair == 0) pairs ≡ []
+none_unused uses other same [] h = refl
+none_unused uses other same (pair ∷ pairs) h =
+    let tests = both (nat_lt 0 (uses pair)) (list_all (λ pair. nat_lt 0 (uses pair)) pairs) h in
+    ap (λ b. cond b (pair ∷ filter (λ pair. other pair == 0) pairs) (filter (λ pair. other pair == 0) pairs)) (ap (λ n. n == 0) (same pair) ∙ above (uses pair) tests.0) ∙ none_unused uses other same pairs tests.1
+  where
+    above : (n : ℕ) → nat_lt 0 n ≡ true → (n == 0) ≡ false
+    above zero e = cc
+    above (suc n) e = grind arith
+
+one_more : (b : Bool) (p : BlockPair) (ps : List BlockPair) → length (cond b ps (p ∷ ps)) ≤ length ps + 1
+one_more true p ps = omega arith
+one_more false p ps = omega arith
+
+kept_more : (b : Bool) (p : BlockPair) (ps : List BlockPair) → length (distinct (cond b (p ∷ ps) ps)) ≤ length (distinct ps) + 1
+kept_more true p ps = one_more (has_pair (distinct ps) p) p (distinct ps)
+kept_more false p ps = omega arith
+
+there_already : (b : Bool) (p : BlockPair) (ps : List BlockPair) → (b ≡ true → has_pair ps p ≡ true) → length (distinct (cond b (p ∷ ps) ps)) ≤ length (distinct ps)
+there_already true p ps h = let e : distinct (p ∷ ps) ≡ distinct ps = ap (λ b. cond b (distinct ps) (p ∷ distinct ps)) (has_pair-distinct ps p ∙ h refl) in let k = ap length e in omega (arith, k)
+there_already false p ps h = omega arith
+
+kept_first : (test : BlockPair → Bool) (p q : BlockPair) (ps : List BlockPair) → q ≡ p → test p ≡ true → has_pair (filter test (q ∷ ps)) p ≡ true
+kept_first test p q ps e h =
+    ap (λ b. has_pair (cond b (q ∷ filter test ps) (filter test ps)) p) (ap test e ∙ h) ∙ ap (λ x. same_pair p x || has_pair (filter test ps) p) e ∙ ap (λ b. b || has_pair (filter test ps) p) (same_itself p)
+
+pub same_or : {P : Type 0} (x y : ℕ) → (x ≡ y → P) → (¬ (x ≡ y) → P) → P
+same_or {P} x y f g = by_test (x == y) refl
+  where
+    by_test : (b : Bool) → (x == y) ≡ b → P
+    by_test true e = f (eqb-true x y e)
+    by_test false e = g (λ same. let bad : true ≡ false = sym (eq-eqb x y same) ∙ e in cc)
+
+-- so many blocks at most lie between the first and the last place
+pub few_blocks : (test : BlockPair → Bool) (block file from n top : ℕ) → 1 ≤ block → (from + n) / block ≤ top → length (distinct (filter test (pairs_at block (spots_from file from (suc n))))) + from / block ≤ top + 1
+few_blocks test block file from zero top some high =
+    let most = kept_more (test (record { file = file; index = from / block })) (record { file = file; index = from / block }) [] in
+    let same : (from + 0) / block ≡ from / block = ap (λ x. x / block) (let e : from + 0 ≡ from = omega arith in e) in omega (arith, most, same, high)
+few_blocks test block file from (suc n) top some high =
+    let rest = pairs_at block (spots_from file (from + 1) (suc n)) in
+    let first : BlockPair = record { file = file; index = from / block } in
+    let next : (from + 1 + n) / block ≤ top = subst (λ x. x / block ≤ top) (let e : from + suc n ≡ from + 1 + n = omega arith in e) high in
+    let later = few_blocks test block file (from + 1) n top some next in
+    same_or ((from + 1) / block) (from / block)
+    (λ same. let most = there_already (test first) first (filter test rest) (λ h. kept_first test first (record { file = file; index = (from + 1) / block }) (pairs_at block (spots_from file (from + 1 + 1) n)) (ap (λ i. let x : BlockPair = record { file = file; index = i } in x) same) h) in omega (arith, most, later, same))
+    (λ apart.
+    let most = kept_more (test first) first (filter test rest) in
+    let down = div-mul-le_self from block in
+    let grows : from / block ≤ (from + 1) / block = le-div (from / block) (from + 1) block (omega (arith, some)) (omega (arith, down)) in
+    omega (arith, most, later, apart, grows))
+
+-- ---- limits
+
+pub uses_few : (block : ℕ) (lists : List (List Piece)) (pair : BlockPair) → uses_in block lists pair ≤ length lists
+uses_few block [] pair = omega arith
+uses_few block (ps ∷ lists) pair =
+    let rest = uses_few block lists pair in let one = at_most (has_pair (pairs_at block (spots_of ps)) pair) in omega (arith, rest, one)
+  where
+    at_most : (b : Bool) → cond {A = ℕ} b 1 0 ≤ 1
+    at_most true = omega arith
+    at_most false = omega arith
+
+in_files : (ps : List Piece) → list_all is_piece ps ≡ true → LieInFiles ps
+in_files [] h = tt
+in_files (p ∷ ps) h = let tests = both (is_piece p) (list_all is_piece ps) h in (leb-true (p.from + p.len) (2 ^ 30) (both _ _ tests.0).1, in_files ps tests.1)
+
+pub lie_in_files : (ps : List Piece) → are_pieces ps ≡ true → LieInFiles ps
+lie_in_files ps h = let g = both _ _ (both _ _ h).0 in in_files ps (both _ _ g.0).1
+
+pub few_samples : (ps : List Piece) → are_pieces ps ≡ true → samples_in ps ≤ 2 ^ 30
+few_samples ps h = leb-true (samples_in ps) (2 ^ 30) (both _ _ (both _ _ h).0).1

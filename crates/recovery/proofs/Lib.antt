@@ -1,0 +1,12 @@
+pub mod Ropes
+pub mod Showing
+pub mod Rebuilding
+pub mod BlocksUsed
+pub mod Addresses
+pub mod Recordings
+pub mod RowsGone
+pub mod Sweeping
+pub mod Freed
+pub mod PlacesFreed
+pub mod Finished
+pub mod Built

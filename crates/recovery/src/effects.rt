@@ -1,0 +1,129 @@
+//! What the effects of changes do to the tables.
+
+ghost use Rattle.std.specs.Prelude.{◌≡◌, ◌≢◌, ℕ, ◌+◌, ◌<◌, ◌≤◌, ◌^◌, ◌&&◌, not, Bool, true, false, List, [], ◌∷◌, ◌++◌, length, is_some, IfOk, Ok, None};
+ghost use Rattle.voice_units.specs.declared.Piece.{Piece};
+ghost use Rattle.voice_units.specs.Spots.{Spot, spots_of, pieces_of};
+ghost use Rattle.voice_units.specs.Blocks.{BlockPair, pairs_at, has_pair};
+ghost use Rattle.voice_model.specs.State.{Durable, class_number, is_live, row_at, with_rows};
+ghost use Rattle.voice_model.specs.State.Effect.{Recorded, Edited, Retained, Forgotten, Counted, Swept, Advanced};
+ghost use Rattle.voice_model.specs.Changes.{changed, with_rope, wait_of};
+ghost use Rattle.rope_table.specs.Table.{rope_of, new_pairs, uses_at};
+ghost use Rattle.recovery.specs.Shown.{Shows, ShowsKept, RowGone, IsOrderly};
+
+use crate::parts::Parts;
+use interest_table::{AddError, InterestTable};
+use rope_algebra::Pieces;
+use voice_model::{Class, Key, Row};
+use voice_units::{Graces, Moment, NoMemory, RopeId};
+
+/// The number of a class, 1 to 3.
+fn number_of(class: Class) -> u8
+    ensures { result ≡ class_number class }
+{
+    match class {
+        Class::Held => 1,
+        Class::Until => 2,
+        Class::Listed => 3,
+    }
+}
+
+/// How long a rope waits that lost a row of this class last, or none at 0.
+fn wait_after(graces: &Graces, last: u8) -> u32
+    ensures { result ≡ wait_of graces.now last }
+{
+    match last {
+        1 => graces.held,
+        2 => graces.until,
+        3 => graces.listed,
+        _ => graces.common,
+    }
+}
+
+/// Puts a row last; false exactly where its class and key stand.
+fn put_row(interests: &mut InterestTable, row: Row) -> Result<bool, NoMemory>
+    requires { length interests.old.rows + 1 < 2 ^ 32 }
+    ensures exact { IfOk result (λ done. done ≡ not (is_some (row_at interests.old.rows row.class row.key))) }
+    ensures done { result ≡ Ok true → interests.new.rows ≡ interests.old.rows ++ row ∷ [] }
+    ensures same { result ≢ Ok true → interests.new.rows ≡ interests.old.rows }
+{
+    match interests.add(row) {
+        Ok(()) => Ok(true),
+        Err(AddError::Taken(_)) => Ok(false),
+        Err(AddError::NoMemory) => Err(NoMemory),
+    }
+}
+
+impl Parts {
+    /// Puts in a rope that comes last, and has no row. It takes no memory.
+    pub fn add_rope(&mut self, id: RopeId, pieces: Pieces, wait: u32)
+        requires unknown { rope_of self.old.ropes.ropes id ≡ None }
+        requires room { 1 ≤ self.old.ropes.spare_ropes }
+        requires pairs { new_pairs self.old.ropes pieces ≤ self.old.ropes.spare_pairs }
+        requires fits { (pair : BlockPair) → has_pair (pairs_at self.old.ropes.block (spots_of pieces)) pair ≡ true → uses_at self.old.ropes pair + 1 < 2 ^ 32 }
+        ensures shows { (held : List (List Piece)) (form : ℕ) (d : Durable Spot) (samples : List Spot) → Shows held self.old d → IsOrderly form d → d.next ≤ id → pieces ≡ pieces_of samples → wait ≡ d.shape.graces.common → Shows held self.new (with_rope d id samples) }
+        ensures blocks { self.new.blocks ≡ self.old.blocks }
+        ensures form { self.new.form ≡ self.old.form }
+    {
+        self.ropes.add(id, pieces, self.moment, 0, wait);
+        self.next = id.number() + 1;
+    }
+
+    /// Puts in a row of a live rope whose class and key do not stand; true exactly then.
+    pub fn retain(&mut self, row: Row) -> Result<bool, NoMemory>
+        requires { length self.old.interests.rows + 1 < 2 ^ 32 }
+        ensures legal { (held : List (List Piece)) (d : Durable Spot) → Shows held self.old d → IfOk result (λ done. done ≡ (is_live d.ropes row.rope && not (is_some (row_at d.rows row.class row.key)))) }
+        ensures done { (held : List (List Piece)) (form : ℕ) (d : Durable Spot) → Shows held self.old d → result ≡ Ok true → Shows held self.new (changed form d (Retained row)) }
+        ensures same { (held : List (List Piece)) (d : Durable Spot) → Shows held self.old d → result ≢ Ok true → Shows held self.new d }
+        ensures blocks { self.new.blocks ≡ self.old.blocks }
+        ensures form { self.new.form ≡ self.old.form }
+    {
+        let Some(_) = self.ropes.wait(row.rope) else {
+            return Ok(false);
+        };
+        if !put_row(&mut self.interests, row)? {
+            return Ok(false);
+        }
+        self.ropes.keep(row.rope, true);
+        Ok(true)
+    }
+
+    // A rope that has no row any more is idle since now, and waits by the class of the last one.
+    fn settle(&mut self, graces: &Graces, rope: RopeId, class: Class)
+        ensures shows { (held : List (List Piece)) (d : Durable Spot) → ShowsKept held self.old.ropes d.rows self.old.moment self.old.next d → RowGone rope d.rows self.old.interests.rows → IsOrderly self.old.form d → d.shape.graces ≡ graces.now → Shows held self.new (with_rows self.old.form (class_number class) d self.old.interests.rows) }
+        ensures rows { self.new.interests ≡ self.old.interests }
+        ensures blocks { self.new.blocks ≡ self.old.blocks }
+        ensures form { self.new.form ≡ self.old.form }
+    {
+        if self.interests.count(rope) > 0 {
+            return;
+        }
+        let last = if self.form == 2 { number_of(class) } else { 0 };
+        let wait = wait_after(graces, last);
+        self.ropes.set_idle(rope, self.moment, last, wait);
+        self.ropes.keep(rope, false);
+    }
+
+    /// Takes out the row of a class and key; false exactly where there is none. A rope that loses its last row is idle since now.
+    pub fn forget(&mut self, graces: &Graces, class: Class, key: &Key) -> bool
+        ensures legal { (held : List (List Piece)) (d : Durable Spot) → Shows held self.old d → result ≡ is_some (row_at d.rows class key.now) }
+        ensures shows { (held : List (List Piece)) (d : Durable Spot) → Shows held self.old d → IsOrderly self.old.form d → d.shape.graces ≡ graces.now → Shows held self.new (changed self.old.form d (Forgotten class key.now)) }
+        ensures same { (held : List (List Piece)) (d : Durable Spot) → Shows held self.old d → result ≡ false → Shows held self.new d }
+        ensures blocks { self.new.blocks ≡ self.old.blocks }
+        ensures form { self.new.form ≡ self.old.form }
+    {
+        let Some(row) = self.interests.remove(class, key) else {
+            return false;
+        };
+        self.settle(graces, row.rope, class);
+        true
+    }
+
+    /// The moment comes.
+    pub fn advance(&mut self, moment: Moment)
+        ensures shows { (held : List (List Piece)) (form : ℕ) (d : Durable Spot) → Shows held self.old d → Shows held self.new (changed form d (Advanced moment)) }
+        ensures blocks { self.new.blocks ≡ self.old.blocks }
+        ensures form { self.new.form ≡ self.old.form }
+    {
+        self.moment = moment;
+    }
+}
