@@ -1,1 +1,6 @@
 pub mod Released
+pub mod Swept
+pub mod Copies
+pub mod Expired
+pub mod Looked
+pub mod Lost

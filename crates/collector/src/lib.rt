@@ -1,6 +1,8 @@
-//! The blocks that nothing uses once ropes are swept.
+//! What a sweep removes: ropes that are due, and the blocks that nothing uses then.
 #![tactic(auto)]
 
 mod releasing;
+mod sweeping;
 
 pub use releasing::{Freed, release};
+pub use sweeping::first;
