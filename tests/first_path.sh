@@ -74,6 +74,6 @@ expect 'no file is made' [ "$before" = "$(ls -A "$work" | grep -v '^\.' | sort)"
 
 expect 'help' sh -c "'$top/voice' --help | grep -q '^  voice run NAME'"
 expect 'help is a screenful' [ "$("$top/voice" --help | wc -l)" -le 24 ]
-expect 'version' [ "$("$top/voice" --version)" = "voice 0.1.0 ($(rt version))" ]
+expect 'version' [ "$("$top/voice" --version)" = 'voice 0.1.0' ]
 expect 'the example' [ "$(cd "$top/examples" && ../voice run first.vs)" = '1 1 record: rope 1 length 20' ]
 finish

@@ -1,7 +1,7 @@
 //! What the program says of itself.
 
-/// Its version, and the toolchain that it is proved with.
-pub const VERSION: &str = "voice 0.1.0 (rattle-kit-13f logic dac8208d650f15bf)\n";
+/// Its version. The README names the toolchain that it is proved with.
+pub const VERSION: &str = "voice 0.1.0\n";
 
 /// What it does, its forms and its files, in a screenful.
 pub const HELP: &str = "\
