@@ -69,3 +69,13 @@ fn files_by_their_first_mention(rt: HostRuntime) -> Result<(), Fail> {
     }
     Ok(())
 }
+
+// The same seed and number of lines give the same bytes.
+#[test]
+fn a_script_is_made_again(rt: HostRuntime) -> Result<(), Fail> {
+    let (first, _tapes) = make(rt.alloc(), 7, 2000)?;
+    let (second, _others) = make(rt.alloc(), 7, 2000)?;
+    assert!(rt; first.len() > 20_000);
+    assert!(rt; first.as_slice() == second.as_slice());
+    Ok(())
+}
