@@ -4,3 +4,5 @@ pub mod Copies
 pub mod Expired
 pub mod Looked
 pub mod Lost
+pub mod Stretched
+pub mod Tried

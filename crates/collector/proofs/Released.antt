@@ -1,7 +1,6 @@
 -- What a release leaves, rope by rope and block by block.
-use Rattle.std.proofs.Common.{◌≡◌, ℕ, suc, ◌+◌, ◌-◌, ◌/◌, ◌<◌, ◌≤◌, List, [], ◌∷◌, ◌++◌, length, take, get_or, Bool, true, false, ◌&&◌, ◌||◌, ◌==◌, cond, Option, Some, None, refl, sym, ◌∙◌, ap, arith}
+use Rattle.std.proofs.Common.{◌≡◌, ℕ, suc, ◌+◌, ◌≤◌, List, [], ◌∷◌, ◌++◌, length, Bool, true, false, ◌&&◌, ◌||◌, ◌==◌, cond, Option, Some, None, refl, sym, ◌∙◌, ap, arith}
 use Rattle.std.proofs.lemmas.Bool.{false≢true, eqb-true, eq-eqb, ne_eqb}
-use Rattle.std.proofs.lemmas.List.{take_more}
 use Rattle.std.specs.Prelude.{option_to_list}
 use Rattle.voice_units.specs.declared.Piece.{Piece}
 use Rattle.voice_units.specs.Blocks.{BlockPair, same_pair}
@@ -13,11 +12,7 @@ use Rattle.voice_blocks.specs.declared.Owner.{Owner}
 use Rattle.voice_blocks.specs.declared.owner.Owner.TheVariants.{File, Taking}
 use Rattle.voice_blocks.specs.declared.owner.Holder.{Holder}
 use Rattle.voice_blocks.specs.Holders.{Holders, EachBecomes, holder_at, open_in, without_block, block_of}
-use Rattle.collector.specs.Freed.{has_at, gone_has, freed, spans, spans_of, without_all, IsReleased}
-
-spans_last : (block : ℕ) (ps : List Piece) (p : Piece) → spans block (ps ++ p ∷ []) ≡ spans block ps + ((p.from + p.len - 1) / block + 1 - p.from / block)
-spans_last block [] p = omega arith
-spans_last block (r ∷ ps) p = let rest = spans_last block ps p in omega (arith, rest)
+use Rattle.collector.specs.Freed.{has_at, gone_has, freed, stretches_of, without_all, IsReleased}
 
 -- ---- lists of numbers
 
@@ -35,9 +30,9 @@ gone_has-append block (x ∷ xs) ys ropes q =
     ap (λ b. has_at block (pieces_at ropes x) q || b) (gone_has-append block xs ys (without_rope x ropes) q)
     ∙ sym (or_assoc (has_at block (pieces_at ropes x) q) (gone_has block (without_rope x ropes) xs q) (gone_has block (without_all xs (without_rope x ropes)) ys q))
 
-pub spans_of-append : (block : ℕ) (xs ys : List ℕ) (ropes : List Rope) → spans_of block ropes (xs ++ ys) ≡ spans_of block ropes xs + spans_of block (without_all xs ropes) ys
-spans_of-append block [] ys ropes = omega arith
-spans_of-append block (x ∷ xs) ys ropes = let rest = spans_of-append block xs ys (without_rope x ropes) in omega (arith, rest)
+pub stretches_of-append : (block : ℕ) (xs ys : List ℕ) (ropes : List Rope) → stretches_of block ropes (xs ++ ys) ≡ stretches_of block ropes xs + stretches_of block (without_all xs ropes) ys
+stretches_of-append block [] ys ropes = omega arith
+stretches_of-append block (x ∷ xs) ys ropes = let rest = stretches_of-append block xs ys (without_rope x ropes) in omega (arith, rest)
 
 -- ---- what becomes of an address
 
@@ -215,11 +210,6 @@ open_grows (Some h ∷ old) (Some k ∷ new) long none = let rest = open_grows o
 -- no address is taken as ropes go
 pub more_open : (test : BlockPair → Bool) (uses : BlockPair → ℕ) (h_0 h_1 : Holders) → EachBecomes (freed test uses) h_0 h_1 → open_in h_0 ≤ open_in h_1
 more_open test uses h_0 h_1 f = open_grows h_0 h_1 f.count (freed_none test uses h_0 h_1 f)
-
--- ---- steps
-
-pub spans_more : (block : ℕ) (ps : List Piece) (k : ℕ) (piece : Piece) → k < length ps → piece ≡ get_or ps k piece → spans block (take (k + 1) ps) ≡ spans block (take k ps) + ((piece.from + piece.len - 1) / block + 1 - piece.from / block)
-spans_more block ps k piece within is = ap (spans block) (take_more ps k piece within ∙ ap (λ p. take k ps ++ p ∷ []) (sym is)) ∙ spans_last block (take k ps) piece
 
 -- blocks that go one after another
 pub both_freed : (test one next : BlockPair → Bool) (uses : BlockPair → ℕ) (h_0 h_1 h_2 : Holders) → ((q : BlockPair) → (test q || one q) ≡ next q) → EachBecomes (freed test uses) h_0 h_1 → EachBecomes (freed one uses) h_1 h_2 → EachBecomes (freed next uses) h_0 h_2

@@ -2,11 +2,12 @@
 --     once b      1 where it holds, else 0
 --     copies n xs      how often a number stands in a list
 --     Rises xs      no number is above one behind it
---     ids_by now dues      the ropes that are due up to a moment
+--     is_by now due, ids_by now dues      whether a rope is due up to a moment;  the ropes that are
 --     rows_kept now rows      the rows that are not expired
 --     expired_of now id rows      how many expired rows a rope has
 --     rows_left counts rows id      how many rows of a rope are left, as a count tells that has the ropes of which some went
 --     is_kept ropes id      whether a rope is live and kept by a row
+--     AreKept rows ropes      a live rope is kept exactly where a row names it
 --     has_only_expired now rows id      whether every row of a rope is expired
 --     is_gone now until rows rope, gone_ids now until rows ropes      whether a sweep removes a live rope;  the numbers of those that it removes
 --     IsShown, AreShown graces ropes lives      the table keeps a live rope of the durable part;  it keeps just these
@@ -38,10 +39,11 @@ abbrev pub Rises : List ℕ → Type 0
 Rises [] = Unit {0}
 Rises (x ∷ xs) = Every (λ y. x ≤ y) xs × Rises xs
 
+-- whether a rope is due up to a moment
 abbrev pub is_by : ℕ → Due → Bool
 is_by now due = nat_le due.at now
 
--- the ropes that are due up to a moment
+-- the ropes that are
 abbrev pub ids_by : ℕ → List Due → List ℕ
 ids_by now dues = map (λ due. due.id) (filter (is_by now) dues)
 
@@ -57,6 +59,10 @@ rows_left counts rows id = unwrap_or (get nat_eq counts id) (rows_of id rows)
 -- whether a rope is live and kept by a row
 abbrev pub is_kept : List Rope → ℕ → Bool
 is_kept ropes id = unwrap_or (kept_at ropes id) false
+
+-- a live rope is kept exactly where a row names it
+abbrev pub AreKept : List Row → List Rope → Type 0
+AreKept rows ropes = Every (λ rope. rope.kept ≡ has_row rows rope.id) ropes
 
 -- the rows that are not expired
 abbrev pub rows_kept : ℕ → List Row → List Row

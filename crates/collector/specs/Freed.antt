@@ -2,13 +2,13 @@
 --     has_at block pieces pair      whether a rope that is live, or not, has a block
 --     gone_has block ropes ids pair      whether one of the live ropes with these numbers has a block
 --     freed has uses holder      what becomes of an address as ropes go that have these blocks
---     spans block ps      how many blocks the pieces have, counted piece by piece
---     spans_of block ropes ids      that of the live ropes with these numbers
+--     stretches_at block pieces      how many stretches a rope has that is live, or not
+--     stretches_of block ropes ids      how many the live ropes with these numbers have
 --     IsReleased old new held left ids      what stays and what goes as the ropes with these numbers go
 --     without_all ids ropes      the ropes without those with these numbers
-use Rattle.std.specs.Prelude.{◌≡◌, ◌≤◌, ℕ, ◌+◌, ◌-◌, ◌/◌, Bool, false, ◌&&◌, ◌||◌, cond, ◌==◌, List, [], ◌∷◌, Option, Some, None}
+use Rattle.std.specs.Prelude.{◌≡◌, ◌≤◌, ℕ, ◌+◌, Bool, false, ◌&&◌, ◌||◌, cond, ◌==◌, List, [], ◌∷◌, length, Option, Some, None}
 use Rattle.voice_units.specs.declared.Piece.{Piece}
-use Rattle.voice_units.specs.Spots.{spots_of}
+use Rattle.voice_units.specs.Spots.{spots_of, stretches}
 use Rattle.voice_units.specs.Blocks.{BlockPair, pairs_at, has_pair}
 use Rattle.rope_table.specs.declared.Rope.{Rope}
 use Rattle.rope_table.specs.Table.{Table, Counts, uses_at, pieces_at, pair_of, without_rope}
@@ -37,19 +37,15 @@ abbrev pub freed : (BlockPair → Bool) → (BlockPair → ℕ) → Option Holde
 freed has uses None = None
 freed has uses (Some h) = cond (goes has uses h.owner h.index) None (Some h)
 
--- how many blocks the pieces have, counted piece by piece
-abbrev pub spans : ℕ → List Piece → ℕ
-spans block [] = 0
-spans block (p ∷ ps) = ((p.from + p.len - 1) / block + 1 - p.from / block) + spans block ps
+-- how many stretches a rope has that is live, or not
+abbrev pub stretches_at : ℕ → Option (List Piece) → ℕ
+stretches_at block None = 0
+stretches_at block (Some ps) = length (stretches block (spots_of ps))
 
-abbrev pub spans_at : ℕ → Option (List Piece) → ℕ
-spans_at block None = 0
-spans_at block (Some ps) = spans block ps
-
--- that of the live ropes with these numbers
-abbrev pub spans_of : ℕ → List Rope → List ℕ → ℕ
-spans_of block ropes [] = 0
-spans_of block ropes (id ∷ ids) = spans_at block (pieces_at ropes id) + spans_of block (without_rope id ropes) ids
+-- how many the live ropes with these numbers have
+abbrev pub stretches_of : ℕ → List Rope → List ℕ → ℕ
+stretches_of block ropes [] = 0
+stretches_of block ropes (id ∷ ids) = stretches_at block (pieces_at ropes id) + stretches_of block (without_rope id ropes) ids
 
 -- the ropes without those with these numbers
 abbrev pub without_all : List ℕ → List Rope → List Rope

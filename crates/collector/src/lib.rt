@@ -3,6 +3,8 @@
 
 mod releasing;
 mod sweeping;
+#[cfg(test)]
+mod tests;
 
 pub use releasing::{Freed, release};
 pub use sweeping::first;

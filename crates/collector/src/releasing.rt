@@ -2,11 +2,11 @@
 
 ghost use Rattle.std.specs.Prelude.{◌≡◌, ℕ, ◌+◌, ◌≤◌, ◌<◌, List, length, [], ◌∷◌};
 ghost use Rattle.voice_units.specs.declared.Piece.{Piece};
-ghost use Rattle.voice_units.specs.Spots.{spots_of};
+ghost use Rattle.voice_units.specs.Spots.{spots_of, stretches};
 ghost use Rattle.voice_units.specs.Blocks.{BlockPair, pairs_at, has_pair, same_pair};
 ghost use Rattle.rope_table.specs.Table.{uses_at, pieces_at, pair_of, Counts};
 ghost use Rattle.voice_blocks.specs.Holders.{EachBecomes, open_in};
-ghost use Rattle.collector.specs.Freed.{IsReleased, gone_has, freed, spans, spans_at, spans_of, without_all};
+ghost use Rattle.collector.specs.Freed.{IsReleased, gone_has, freed, stretches_at, stretches_of, without_all};
 
 use rope_table::{Pieces, RopeTable};
 use std::sync::ledger::Ledger;
@@ -41,7 +41,7 @@ fn drop_unused<L: Ledger>(
 )
     ensures holders { EachBecomes (freed (has_pair (pairs_at table.now.block (spots_of pieces.now))) (uses_at table.now)) blocks.old.holders blocks.new.holders }
     ensures spare { blocks.new.spare ≡ blocks.old.spare }
-    ensures steps { steps.new ≡ steps.old + spans table.now.block pieces.now }
+    ensures steps { steps.new ≡ steps.old + length (stretches table.now.block (spots_of pieces.now)) }
 {
     let block = table.block();
     let _length = pieces.length();
@@ -68,7 +68,7 @@ fn release_one<L: Ledger>(
 )
     ensures released { IsReleased table.old table.new blocks.old.holders blocks.new.holders (id ∷ []) }
     ensures spare { blocks.new.spare ≡ blocks.old.spare }
-    ensures steps { steps.new ≡ steps.old + 1 + spans_at table.old.block (pieces_at table.old.ropes id) }
+    ensures steps { steps.new ≡ steps.old + 1 + stretches_at table.old.block (pieces_at table.old.ropes id) }
 {
     steps.tick();
     let Some(pieces) = table.remove(id) else {
@@ -86,14 +86,14 @@ fn release_all<L: Ledger>(
 )
     ensures released { IsReleased table.old table.new blocks.old.holders blocks.new.holders ids.now }
     ensures spare { blocks.new.spare ≡ blocks.old.spare }
-    ensures steps { steps.new ≡ steps.old + length ids.now + spans_of table.old.block table.old.ropes ids.now }
+    ensures steps { steps.new ≡ steps.old + length ids.now + stretches_of table.old.block table.old.ropes ids.now }
 {
     for id in ids {
         release_one(table, blocks, *id, steps);
     }
 }
 
-/// Removes these ropes, and drops the blocks of theirs that nothing uses then: blocks of voice files, and not of recordings that aren't done. A number that is not live changes nothing. It takes no memory, and a step for each number and for each block of each piece.
+/// Removes these ropes, and drops the blocks of theirs that nothing uses then: blocks of voice files, and not of recordings that aren't done. A number that is not live changes nothing. It takes no memory, and a step for each number and for each stretch of these ropes.
 pub fn release<L: Ledger>(
     table: &mut RopeTable,
     blocks: &mut BlockMap,
@@ -106,7 +106,7 @@ pub fn release<L: Ledger>(
     ensures holders { EachBecomes (freed (gone_has table.old.block table.old.ropes ropes.now) (uses_at table.new)) blocks.old.holders blocks.new.holders }
     ensures spare { blocks.new.spare ≡ blocks.old.spare }
     ensures freed { open_in blocks.new.holders ≡ open_in blocks.old.holders + result.blocks }
-    ensures steps { steps.new ≡ steps.old + length ropes.now + spans_of table.old.block table.old.ropes ropes.now }
+    ensures steps { steps.new ≡ steps.old + length ropes.now + stretches_of table.old.block table.old.ropes ropes.now }
 {
     let before = blocks.free();
     release_all(table, blocks, ropes.items(), steps);

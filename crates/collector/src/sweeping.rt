@@ -1,20 +1,20 @@
 //! The ropes that a sweep removes.
 
-ghost use Rattle.std.specs.Prelude.{◌≡◌, ℕ, ◌+◌, ◌-◌, ◌≤◌, ◌&&◌, ◌==◌, nat_lt, nat_le, List, length, take, IfOk, OnOk};
+ghost use Rattle.std.specs.Prelude.{◌≡◌, ℕ, ◌+◌, ◌-◌, ◌≤◌, ◌&&◌, ◌==◌, nat_lt, List, length, take, IfOk, OnOk};
 ghost use Rattle.voice_units.specs.Spots.{Spot};
 ghost use Rattle.voice_model.specs.Samples.{Tagged};
-ghost use Rattle.voice_model.specs.State.{Durable, has_row, spelled_number};
+ghost use Rattle.voice_model.specs.State.{Durable};
 ghost use Rattle.voice_model.specs.Changes.{is_expired, swept_ropes};
-ghost use Rattle.rope_table.specs.Table.{Every, index_of};
+ghost use Rattle.rope_table.specs.Table.{index_of};
 ghost use Rattle.interest_table.specs.Table.{rows_of};
-ghost use Rattle.collector.specs.Due.{copies, once, Rises, ids_by, rows_left, is_kept, has_only_expired, gone_ids, ShowsDue, due_count};
+ghost use Rattle.collector.specs.Due.{copies, once, Rises, ids_by, rows_left, is_kept, AreKept, has_only_expired, gone_ids, ShowsDue, due_count};
 
-use interest_table::{InterestTable, Row};
+use interest_table::{InterestTable, Row, has_expired};
 use rope_table::RopeTable;
 use std::alloc::Global;
 use std::collections::HashMap;
 use std::sync::ledger::Ledger;
-use voice_model::{Class, RopeList};
+use voice_model::RopeList;
 use voice_units::{Moment, NoMemory, RopeId, Steps};
 
 // The ropes that no row keeps and that were idle for their wait, in the order in which they are due. More than 2^32 - 1 of them are taken for lack of memory.
@@ -39,28 +39,6 @@ fn ropes_due<L: Ledger>(
         due.push(id)?;
     }
     Err(NoMemory)
-}
-
-// Whether the number that bytes spell, the first byte highest, is at most a moment's.
-fn spells_at_most(bytes: &[u8], moment: Moment) -> bool
-    ensures { result ≡ nat_le (spelled_number bytes.now) moment }
-{
-    let most = moment.number();
-    let mut number = 0u64;
-    for byte in bytes {
-        number = number * 256 + u64::from(*byte);
-        if number > most {
-            return false;
-        }
-    }
-    true
-}
-
-// Whether a row is of class Until and its moment is not above this one.
-fn has_expired(row: &Row, now: Moment) -> bool
-    ensures { result ≡ is_expired now row.now }
-{
-    matches!(row.class, Class::Until) && spells_at_most(row.note.bytes(), now)
 }
 
 // Takes a row of a rope as gone, and says how many of its rows are left.
@@ -163,7 +141,7 @@ fn all_gone<L: Ledger>(
     until: u32,
     steps: &mut Steps<L>,
 ) -> Result<Vec<RopeId>, NoMemory>
-    requires { Every (λ rope. rope.kept ≡ has_row interests.now.rows rope.id) table.now.ropes }
+    requires { AreKept interests.now.rows table.now.ropes }
     ensures ropes { IfOk result (λ gone. (id : ℕ) → copies id gone.items ≡ copies id (gone_ids now until interests.now.rows table.now.ropes)) }
     ensures steps { steps.new ≤ steps.old + length (gone_ids now until interests.now.rows table.now.ropes) + 1 }
 {
@@ -186,7 +164,7 @@ pub fn first<L: Ledger>(
     limit: u16,
     steps: &mut Steps<L>,
 ) -> Result<RopeList, NoMemory>
-    requires { Every (λ rope. rope.kept ≡ has_row interests.now.rows rope.id) table.now.ropes }
+    requires { AreKept interests.now.rows table.now.ropes }
     ensures swept { IfOk result (λ gone. (form : ℕ) (d : Durable Tagged) → ShowsDue table.now interests.now.rows now until form d → gone ≡ swept_ropes form d limit) }
     ensures swept_spots { IfOk result (λ gone. (form : ℕ) (d : Durable Spot) → ShowsDue table.now interests.now.rows now until form d → gone ≡ swept_ropes form d limit) }
     ensures steps { (form : ℕ) (d : Durable Tagged) → ShowsDue table.now interests.now.rows now until form d → steps.new ≤ steps.old + due_count form d + 1 }

@@ -1,16 +1,13 @@
 -- A row is put last.
-use Rattle.std.proofs.Common.{◌≡◌, ℕ, ◌<◌, ◌≤◌, ◌+◌, ◌^◌, List, [], ◌∷◌, ◌++◌, map, length, ap, ap₂, ◌∙◌, sym, refl, cond, Bool, true, false, ◌==◌, ◌&&◌, Option, Some, None, subst, eq-eqb, arith}
-use Rattle.std.proofs.lemmas.Bool.{eqb-true}
-use Rattle.std.specs.Prelude.{unwrap_or, nat_eq}
+use Rattle.std.proofs.Common.{◌≡◌, ℕ, ◌≤◌, ◌+◌, List, [], ◌∷◌, ◌++◌, map, length, ap, ap₂, ◌∙◌, refl, cond, Bool, true, false, ◌==◌, ◌&&◌, Option, Some, None, eq-eqb, arith}
 use Rattle.std.proofs.lemmas.Cmp.{nat_list_eq_equiv}
-use Rattle.indexmap.specs.IndexMap as index
 use Rattle.voice_model.specs.State.{class_number, is_row, row_at}
 use Rattle.voice_model.specs.Valid.{Once}
 use Rattle.voice_model.specs.declared.calls.Row.{Row}
 use Rattle.interest_table.specs.declared.rows.RowName.{RowName}
 use Rattle.interest_table.specs.Table.{rows_of}
-use Rattle.interest_table.specs.Inside.{row_in, name_of, AreNamed, IsTable, rows_counted}
-use Rattle.interest_table.proofs.Found.{is_that_row, or_none}
+use Rattle.interest_table.specs.Inside.{row_in, name_of, AreNamed}
+use Rattle.interest_table.proofs.Found.{is_that_row}
 
 -- a rope has no more rows than there are
 pub rows_of_most : (rope : ℕ) (rows : List Row) → rows_of rope rows ≤ length rows
@@ -25,7 +22,7 @@ pub rows_push : (es : List (RowName × Row)) (row : Row) → map row_in (es ++ (
 rows_push [] row = refl
 rows_push (e ∷ es) row = ap (λ l. e.1 ∷ l) (rows_push es row)
 
-named_push : (es : List (RowName × Row)) (row : Row) → AreNamed es → AreNamed (es ++ (name_of row, row) ∷ [])
+pub named_push : (es : List (RowName × Row)) (row : Row) → AreNamed es → AreNamed (es ++ (name_of row, row) ∷ [])
 named_push [] row h = (refl, tt)
 named_push (e ∷ es) row h = (h.0, named_push es row h.1)
 
@@ -53,7 +50,7 @@ no_name : (b : Bool) (row : Row) (o : Option Row) → cond b (Some row) o ≡ No
 no_name true row o h = cc
 no_name false row o h = (refl, h)
 
-once_push : (rows : List Row) (r : Row) → Once rows → row_at rows r.class r.key ≡ None → Once (rows ++ r ∷ [])
+pub once_push : (rows : List Row) (r : Row) → Once rows → row_at rows r.class r.key ≡ None → Once (rows ++ r ∷ [])
 once_push [] r once none = (refl, tt)
 once_push (row ∷ rows) r once none =
     let parts = no_name (is_row r.class r.key row) row (row_at rows r.class r.key) none in
@@ -63,26 +60,10 @@ rows_of_push : (rope : ℕ) (rows : List Row) (r : Row) → rows_of rope (rows +
 rows_of_push rope [] r = omega arith
 rows_of_push rope (row ∷ rows) r = let rest = rows_of_push rope rows r in omega (arith, rest)
 
-length_push : {A : Type 0} (xs : List A) (x : A) → length (xs ++ x ∷ []) ≡ length xs + 1
+pub length_push : {A : Type 0} (xs : List A) (x : A) → length (xs ++ x ∷ []) ≡ length xs + 1
 length_push [] x = refl
 length_push (y ∷ xs) x = let rest = length_push xs x in omega (arith, rest)
 
 one_more : (b : Bool) (now was own : ℕ) → (b ≡ true → own ≡ was) → now ≡ cond b (own + 1) was → now ≡ was + cond b 1 0
 one_more true now was own same e = let s = same refl in omega (arith, s, e)
 one_more false now was own same e = omega (arith, e)
-
--- the table after a row was put last
-pub one_row_more : {S H : Type 0} (rows new : index.IndexMap RowName Row S) (counts counted : index.IndexMap ℕ ℕ H) (row : Row) (count : ℕ) → IsTable rows counts → new.entries ≡ rows.entries ++ (name_of row, row) ∷ [] → row_at (map row_in rows.entries) row.class row.key ≡ None → length rows.entries + 1 < 2 ^ 32 → count ≡ rows_of row.rope (map row_in rows.entries) → ((other : ℕ) → index.get nat_eq counted other ≡ cond (nat_eq row.rope other) (Some (count + 1)) (index.get nat_eq counts other)) → IsTable new counted
-one_row_more rows new counts counted row count h is none few was now =
-    let left : map row_in new.entries ≡ map row_in rows.entries ++ row ∷ [] = ap (map row_in) is ∙ rows_push rows.entries row in
-    record {
-      named = subst AreNamed (sym is) (named_push rows.entries row h.named);
-      once = subst Once (sym left) (once_push (map row_in rows.entries) row h.once none);
-      counted = λ rope.
-          let own : (row.rope == rope) ≡ true → count ≡ rows_of rope (map row_in rows.entries) = λ t. was ∙ ap (λ k. rows_of k (map row_in rows.entries)) (eqb-true row.rope rope t) in
-          let get : rows_counted counted rope ≡ cond (row.rope == rope) (count + 1) (rows_of rope (map row_in rows.entries)) =
-          ap (λ o. unwrap_or o 0) (now rope) ∙ or_none (row.rope == rope) (count + 1) (index.get nat_eq counts rope) ∙ ap (cond (row.rope == rope) (count + 1)) (h.counted rope) in
-          one_more (row.rope == rope) (rows_counted counted rope) (rows_of rope (map row_in rows.entries)) count own get
-          ∙ sym (rows_of_push rope (map row_in rows.entries) row) ∙ ap (rows_of rope) (sym left);
-      few = let long = length_push rows.entries (name_of row, row) in let same = ap (λ es. length es) is in omega (arith, long, same, few);
-    }

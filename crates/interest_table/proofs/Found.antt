@@ -19,8 +19,9 @@ use Rattle.std.specs.Prelude.{unwrap_or, nat_eq, is_ok, OnOk, Result, Ok, Err}
 use Rattle.std.proofs.Common.{◌^◌}
 use Rattle.indexmap.specs.IndexMap as index
 use Rattle.voice_model.specs.Valid.{Once}
-use Rattle.interest_table.specs.Table.{rows_of}
-use Rattle.interest_table.specs.Inside.{row_in, name_of, AreNamed, IsTable, rows_counted}
+use Rattle.interest_table.specs.declared.tally.Tally.{Tally}
+use Rattle.interest_table.specs.Table.{rows_of, key_bytes_of, note_bytes_of}
+use Rattle.interest_table.specs.Inside.{row_in, name_of, AreNamed, AreShort, IsTable, rows_counted}
 
 -- the comparison of names, as derived
 abbrev pub same_name : RowName → RowName → Bool
@@ -81,11 +82,16 @@ lookup_is test class key agree [] h = refl
 lookup_is test class key agree (e ∷ es) h =
     ap (λ b. cond b (Some e.1) (lookup test es)) (ap test h.0 ∙ agree e.1) ∙ ap (λ o. cond (is_row class key e.1) (Some e.1) o) (lookup_is test class key agree es h.1)
 
-pub still_table : {S H : Type 0} (rows new : index.IndexMap RowName Row S) (counts counted : index.IndexMap ℕ ℕ H) → IsTable rows counts → new.entries ≡ rows.entries → counted.entries ≡ counts.entries → IsTable new counted
-still_table rows new counts counted h e f = record {
+pub still_table : {S : Type 0} (rows new : index.IndexMap RowName Row S) (tally tallied : Tally) → IsTable rows tally → new.entries ≡ rows.entries → tallied.counts.entries ≡ tally.counts.entries → tallied.key_bytes ≡ tally.key_bytes → tallied.note_bytes ≡ tally.note_bytes → IsTable new tallied
+still_table rows new tally tallied h e f keys notes = record {
   named = subst AreNamed (sym e) h.named;
   once = subst (λ es. Once (map row_in es)) (sym e) h.once;
-  counted = λ rope. ap (λ es. unwrap_or (lookup (nat_eq rope) es) 0) f ∙ h.counted rope ∙ ap (λ es. rows_of rope (map row_in es)) (sym e);
+  told = record {
+    counts = λ rope. ap (λ es. unwrap_or (lookup (nat_eq rope) es) 0) f ∙ h.told.counts rope ∙ ap (λ es. rows_of rope (map row_in es)) (sym e);
+    keys = keys ∙ h.told.keys ∙ ap (λ es. key_bytes_of (map row_in es)) (sym e);
+    notes = notes ∙ h.told.notes ∙ ap (λ es. note_bytes_of (map row_in es)) (sym e);
+  };
+  short = subst (λ es. AreShort (map row_in es)) (sym e) h.short;
   few = subst (λ es. length es < 2 ^ 32) (sym e) h.few;
 }
 
@@ -200,19 +206,3 @@ fewer_either false xs ys n p q = q
 pub fewer_after : (test : RowName → Bool) (es : List (RowName × Row)) → length (remove_entry test es) ≤ length es
 fewer_after test [] = omega arith
 fewer_after test (e ∷ es) = let rest = fewer_after test es in fewer_either (test e.0) es (e ∷ remove_entry test es) (suc (length es)) (omega arith) (omega (arith, rest))
-
-counted_either : (b : Bool) (before after was now rope other : ℕ) → before ≡ cond b 1 0 + after → was ≡ before → now ≡ cond b (was - 1) was → now ≡ after
-counted_either true before after was now rope other e f g = omega (arith, e, f, g)
-counted_either false before after was now rope other e f g = omega (arith, e, f, g)
-
--- the table after a row went
-pub one_row_gone : {S H : Type 0} (rows new : index.IndexMap RowName Row S) (counts counted : index.IndexMap ℕ ℕ H) (class : Class) (key : List ℕ) (row : Row) → IsTable rows counts → new.entries ≡ remove_entry (same_name (record { class = class; key = key })) rows.entries → row_at (map row_in rows.entries) class key ≡ Some row → ((other : ℕ) → rows_counted counted other ≡ cond (row.rope == other) (rows_counted counts other - 1) (rows_counted counts other)) → IsTable new counted
-one_row_gone rows new counts counted class key row h is at less =
-    let test = same_name (record { class = class; key = key }) in
-    let left : map row_in new.entries ≡ others class key (map row_in rows.entries) = ap (map row_in) is ∙ remove_is test class key (tested class key) rows.entries h.named h.once in
-    record {
-      named = subst AreNamed (sym is) (named_after test rows.entries h.named);
-      once = subst Once (sym left) (once_after class key (map row_in rows.entries) h.once);
-      counted = λ rope. counted_either (row.rope == rope) (rows_of rope (map row_in rows.entries)) (rows_of rope (others class key (map row_in rows.entries))) (rows_counted counts rope) (rows_counted counted rope) rope rope (rows_of-others class key rope row (map row_in rows.entries) at h.once) (h.counted rope) (less rope) ∙ ap (rows_of rope) (sym left);
-      few = let fewer = fewer_after test rows.entries in let same = ap (λ es. length es) is in omega (arith, fewer, same, h.few);
-    }

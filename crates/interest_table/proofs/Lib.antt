@@ -1,3 +1,4 @@
 pub mod Found
 pub mod Added
 pub mod Keys
+pub mod Told

@@ -1,8 +1,11 @@
 //! The interests in order of making, found by class and key and counted by rope.
 #![tactic(auto)]
 
+mod going;
 mod rows;
+mod tally;
 
+pub use going::{has_expired, key_set};
 pub use rows::{AddError, InterestTable};
 pub use voice_model::Row;
 

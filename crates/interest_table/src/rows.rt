@@ -1,16 +1,15 @@
 //! The table of interests.
 
-ghost use Rattle.std.specs.Prelude.{◌≡◌, ℕ, ◌<◌, ◌≤◌, ◌+◌, ◌-◌, ◌^◌, ◌++◌, ◌∷◌, ◌↔◌, nat_le, [], length, not, filter, map, take, count_by, slice_get, IfOk, OnOk, OnErr, IfErr, IsOk, None, Some, option_copied, is_some, ◌==◌, ◌≢◌, Err, IsSomeAnd, if◌then◌else◌};
-ghost use Rattle.voice_model.specs.State.{is_row, row_at, spelled_number};
-ghost use Rattle.voice_model.specs.Changes.{is_expired, is_unlisted, unlisted_keys};
-ghost use Rattle.interest_table.specs.Table.{expired_keys, rows_of};
-ghost use Rattle.interest_table.specs.Inside.{rows_counted};
-ghost use Rattle.indexmap.specs.IndexMap.{spare};
-ghost use Rattle.std.specs.Prelude.{List, bytes_eq, IsTrue};
-ghost use Rattle.std.specs.List.{list_any};
+ghost use Rattle.std.specs.Prelude.{◌≡◌, ◌<◌, ◌≤◌, ◌+◌, ◌^◌, ◌++◌, ◌∷◌, ◌↔◌, ℕ, [], length, not, filter, map, slice_get, IfOk, OnOk, OnErr, IsOk, option_copied, ◌≢◌, Err, IsSomeAnd, IsTrue};
+ghost use Rattle.voice_model.specs.State.{is_row, row_at};
+ghost use Rattle.voice_model.specs.Changes.{is_expired, unlisted_keys};
+ghost use Rattle.interest_table.specs.Table.{expired_keys, rows_of, key_bytes_of, note_bytes_of, is_named};
+ghost use Rattle.interest_table.specs.Inside.{row_in, Lost};
 
+use crate::going::{has_expired, has_key_among, is_absent, key_set};
+use crate::tally::{Tally, copy_of, count_of, gain, lose};
 use indexmap::IndexMap;
-use std::alloc::{AllocError, Global};
+use std::alloc::Global;
 use std::collections::HashSet;
 use std::marker::Model;
 use voice_model::{Class, Key, KeyList, Row};
@@ -35,7 +34,7 @@ pub enum AddError {
 #[derive(Drop)]
 pub struct InterestTable {
     rows: IndexMap<RowName, Row>,
-    counts: IndexMap<RopeId, u32>,
+    tally: Tally,
 }
 
 impl Model for InterestTable {
@@ -44,60 +43,38 @@ impl Model for InterestTable {
 
     ghost Value = { Table };
 
-    ghost view = { λ t. seen t.rows t.counts };
+    ghost view = { λ t. seen t.rows t.tally };
 
-    ghost invariant = { λ t. IsTable t.rows t.counts };
+    ghost invariant = { λ t. IsTable t.rows t.tally };
 }
 
-/// One row of a rope less. A rope without rows is not kept.
-fn drop_one(counts: &mut IndexMap<RopeId, u32>, rope: RopeId)
-    ensures spare { spare counts.old ≤ spare counts.new }
-    ensures count { (other : ℕ) → rows_counted counts.new other ≡ (if rope == other then rows_counted counts.old other - 1 else rows_counted counts.old other) }
+/// Counts the rows that are expired as gone.
+fn lose_expired(rows: &IndexMap<RowName, Row>, tally: &mut Tally, now: Moment)
+    ensures { Lost tally.old tally.new (filter (is_expired now) (map row_in rows.now.entries)) }
 {
-    if counts.get(&rope).copied().unwrap_or(0) <= 1 {
-        counts.swap_remove(&rope);
-        return;
-    }
-    let Some(count) = counts.get_mut(&rope) else {
-        return;
-    };
-    *count = count.saturating_sub(1);
-}
-
-/// Whether the number that bytes spell, the first byte highest, is at most a moment's.
-fn spells_at_most(bytes: &[u8], moment: Moment) -> bool
-    ensures { result ≡ nat_le (spelled_number bytes.now) moment }
-{
-    let most = moment.number();
-    let mut number = 0u64;
-    for byte in bytes {
-        number = number * 256 + u64::from(*byte);
-        if number > most {
-            return false;
+    for row in rows.values() {
+        if has_expired(row, now) {
+            lose(tally, row);
         }
     }
-    true
 }
 
-/// Whether a row is of class Until and its moment is not above this one.
-fn has_expired(row: &Row, moment: Moment) -> bool
-    ensures { result ≡ is_expired moment row.now }
+/// Counts the rows of a class with these keys as gone.
+fn lose_named(rows: &IndexMap<RowName, Row>, tally: &mut Tally, class: Class, keys: &HashSet<Key>)
+    ensures { Lost tally.old tally.new (filter (is_named class keys.now.keys) (map row_in rows.now.entries)) }
 {
-    matches!(row.class, Class::Until) && spells_at_most(row.note.bytes(), moment)
+    for row in rows.values() {
+        if has_key_among(row, class, keys) {
+            lose(tally, row);
+        }
+    }
 }
 
-/// The keys that a census names, each once.
-fn named_keys(alloc: Global, census: &KeyList) -> Result<HashSet<Key>, AllocError>
-    ensures { IfOk result (λ named. (key : List ℕ) → list_any (bytes_eq key) named.keys ≡ list_any (bytes_eq key) census.now) }
+/// The same rows.
+fn copy_rows(rows: &IndexMap<RowName, Row>) -> Result<IndexMap<RowName, Row>, NoMemory>
+    ensures { IfOk result (λ copy. copy.entries ≡ rows.now.entries) }
 {
-    census.items().iter().copied().collect(alloc)
-}
-
-/// Whether a row is of class Listed and its key is not named.
-fn is_absent(row: &Row, named: &HashSet<Key>) -> bool
-    ensures { result ≡ is_unlisted named.now.keys row.now }
-{
-    matches!(row.class, Class::Listed) && !named.contains(&row.key)
+    Ok(rows.clone()?)
 }
 
 impl InterestTable {
@@ -107,7 +84,11 @@ impl InterestTable {
     {
         InterestTable {
             rows: IndexMap::new(alloc),
-            counts: IndexMap::new(alloc),
+            tally: Tally {
+                counts: IndexMap::new(alloc),
+                key_bytes: 0,
+                note_bytes: 0,
+            },
         }
     }
 
@@ -119,7 +100,7 @@ impl InterestTable {
         ensures succeeds { n ≤ self.old.spare → IsOk result }
     {
         self.rows.reserve(n as usize)?;
-        self.counts.reserve(n as usize)?;
+        self.tally.counts.reserve(n as usize)?;
         Ok(())
     }
 
@@ -134,7 +115,7 @@ impl InterestTable {
     pub fn count(&self, rope: RopeId) -> u32
         ensures { result ≡ rows_of rope self.now.rows }
     {
-        self.counts.get(&rope).copied().unwrap_or(0)
+        count_of(&self.tally.counts, rope)
     }
 
     /// The k-th row in order of making, from 0; `None` exactly where there are not so many.
@@ -145,7 +126,7 @@ impl InterestTable {
         Some(row)
     }
 
-    /// Takes out the row of a class and key, and keeps the order of the rest. The rows behind it move up, so the cost grows with their number.
+    /// Takes out the row of a class and key, and keeps the order of the rest. The rows behind it move up, so the cost grows with their number; `drop_expired` and `remove_all` take out many rows at the cost of one pass.
     pub fn remove(&mut self, class: Class, key: &Key) -> Option<Row>
         ensures value { result ≡ row_at self.old.rows class key.now }
         ensures rows { self.new.rows ≡ filter (λ row. not (is_row class key.now row)) self.old.rows }
@@ -154,8 +135,48 @@ impl InterestTable {
         let Some(row) = self.rows.shift_remove(&RowName { class, key: *key }) else {
             return None;
         };
-        drop_one(&mut self.counts, row.rope);
+        lose(&mut self.tally, &row);
         Some(row)
+    }
+
+    /// Takes out the rows of class Until whose moment is not above this one, and keeps the order of the rest. It goes over all rows, however many go, and takes no memory.
+    pub fn drop_expired(&mut self, now: Moment)
+        ensures rows { self.new.rows ≡ filter (λ row. not (is_expired now row)) self.old.rows }
+        ensures spare { self.old.spare ≤ self.new.spare }
+    {
+        lose_expired(&self.rows, &mut self.tally, now);
+        self.rows.retain(
+            |_name: &RowName, row: &mut Row| -> bool
+                ensures { (result ≡ not (is_expired now row.old)) × (row.new ≡ row.old) }
+            { !has_expired(row, now) },
+        );
+    }
+
+    /// Takes out the rows of a class with these keys, and keeps the order of the rest. It goes over all rows, however many go, and takes no memory; `key_set` makes the set.
+    pub fn remove_all(&mut self, class: Class, keys: &HashSet<Key>)
+        ensures rows { self.new.rows ≡ filter (λ row. not (is_named class keys.now.keys row)) self.old.rows }
+        ensures spare { self.old.spare ≤ self.new.spare }
+    {
+        lose_named(&self.rows, &mut self.tally, class, keys);
+        self.rows.retain(
+            |_name: &RowName, row: &mut Row| -> bool
+                ensures { (result ≡ not (is_named class keys.entry.now.keys row.old)) × (row.new ≡ row.old) }
+            { !has_key_among(row, class, keys) },
+        );
+    }
+
+    /// How many bytes the keys of all rows have. They are kept counted.
+    pub fn key_bytes(&self) -> u64
+        ensures { result ≡ key_bytes_of self.now.rows }
+    {
+        self.tally.key_bytes
+    }
+
+    /// How many bytes the notes of all rows have. They are kept counted.
+    pub fn note_bytes(&self) -> u64
+        ensures { result ≡ note_bytes_of self.now.rows }
+    {
+        self.tally.note_bytes
     }
 
     /// Whether the table has as many rows as it may, 2^32 - 1.
@@ -177,11 +198,10 @@ impl InterestTable {
         if let Some(other) = self.find(row.class, &row.key) {
             return Err(AddError::Taken(other.rope));
         }
-        let count = self.count(row.rope);
         let Ok(()) = self.rows.reserve(1) else {
             return Err(AddError::NoMemory);
         };
-        let Ok(_) = self.counts.insert(row.rope, count + 1) else {
+        let Ok(()) = gain(&mut self.tally, &row) else {
             return Err(AddError::NoMemory);
         };
         let name = RowName {
@@ -212,7 +232,7 @@ impl InterestTable {
         ensures { IfOk result (λ keys. keys ≡ unlisted_keys self.now.rows census.now) }
     {
         let alloc = *self.rows.allocator();
-        let named = named_keys(alloc, census)?;
+        let named = key_set(alloc, census.items())?;
         let mut keys = Vec::new(alloc);
         for row in self.rows.values() {
             if keys.len() < 65_535 && is_absent(row, &named) {
@@ -226,8 +246,8 @@ impl InterestTable {
     pub fn copy(&self) -> Result<InterestTable, NoMemory>
         ensures { IfOk result (λ copy. copy.rows ≡ self.now.rows) }
     {
-        let rows = self.rows.clone()?;
-        let counts = self.counts.clone()?;
-        Ok(InterestTable { rows, counts })
+        let rows = copy_rows(&self.rows)?;
+        let tally = copy_of(&self.tally)?;
+        Ok(InterestTable { rows, tally })
     }
 }

@@ -1,6 +1,6 @@
 //! A table of interests through a day: what stands, what is obsolete, and in which order.
 
-use super::{AddError, InterestTable};
+use super::{AddError, InterestTable, key_set};
 use std::alloc::Global;
 use std::test::Fail;
 use voice_model::{Class, Key, KeyList, Note, Row};
@@ -140,5 +140,41 @@ fn obsolete_rows(rt: HostRuntime) -> Result<(), Fail> {
     assert_eq!(rt; expiries(&table)?, [0, 1, 1, 2]);
     assert_eq!(rt; unlisted(rt.alloc(), &table, Key::new(b"n")?)?, 1);
     assert_eq!(rt; unlisted(rt.alloc(), &table, Key::new(b"h")?)?, 2);
+    Ok(())
+}
+
+// The bytes of keys and of notes, the rows of rope 2, and the rope of the third row.
+fn sizes_of(table: &InterestTable) -> [u64; 4] {
+    [
+        table.key_bytes(),
+        table.note_bytes(),
+        u64::from(table.count(RopeId(2))),
+        rope_at(table, 2),
+    ]
+}
+
+fn sizes_expired(alloc: Global) -> [u64; 4] {
+    let mut table = InterestTable::new(alloc);
+    fill(&mut table);
+    table.drop_expired(Moment(30));
+    sizes_of(&table)
+}
+
+fn sizes_unlisted(alloc: Global) -> Result<[u64; 4], NoMemory> {
+    let mut table = InterestTable::new(alloc);
+    fill(&mut table);
+    let Ok(named) = Key::new(b"n") else {
+        return Err(NoMemory);
+    };
+    let named = key_set(alloc, &[named])?;
+    table.remove_all(Class::Listed, &named);
+    Ok(sizes_of(&table))
+}
+
+// Rows that go in one pass leave the others in order and counted.
+#[test]
+fn rows_go_at_once(rt: HostRuntime) -> Result<(), Fail> {
+    assert_eq!(rt; sizes_expired(rt.alloc()), [4, 16, 3, 2]);
+    assert_eq!(rt; sizes_unlisted(rt.alloc())?, [4, 24, 2, 1]);
     Ok(())
 }

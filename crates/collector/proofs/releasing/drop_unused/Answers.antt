@@ -1,11 +1,13 @@
 use Rattle.std.proofs.Common.{◌≡◌, ◌≤◌, ◌<◌, length, ◌+◌, ◌-◌, ◌/◌, ◌||◌, take, Some, ap, sym, ◌∙◌, arith}
 use Rattle.std.proofs.Math.Nat.{div-le_self}
 use Rattle.std.specs.Prelude.{slice_get}
-use Rattle.voice_units.specs.Spots.{spots_of}
+use Rattle.std.proofs.lemmas.List.{take_all}
+use Rattle.voice_units.specs.Spots.{spots_of, stretches}
 use Rattle.voice_units.specs.Blocks.{pairs_at, has_pair, same_pair}
 use Rattle.rope_table.specs.Table.{pair_of, uses_at}
 use Rattle.rope_table.proofs.Blocks.{div_grows, in_run, no_run, run_of, run_more, front_more, some_samples, ends_in_file, at_get}
-use Rattle.collector.proofs.Released.{both_freed, same_becomes, spans_more}
+use Rattle.collector.proofs.Released.{both_freed, same_becomes}
+use Rattle.collector.proofs.Stretched.{spans, spans_more, spans_stretches}
 use Rattle.collector.proofs.releasing.drop_unused.Goals as goal
 
 pub overflow_add-last : goal.overflow_add-last
@@ -68,3 +70,12 @@ loop-k-preserved g c =
       spare = c.loop-index.invariant.spare;
       steps = omega (arith, more, c.loop-index.invariant.steps, end, grows);
     }
+
+pub returns-clause-steps : goal.returns-clause-steps
+returns-clause-steps g c =
+    let ps = c.args.pieces.now in
+    let some : 0 < c.block-block.result = omega (arith, c.block-block.ensures.value, c.block-block.ensures.laws.least) in
+    let all = ap (spans c.block-block.result) (take_all c.loop-k.k ps (omega (arith, c.loop-k-test.false, c.count-k-end.ensures))) in
+    let same = spans_stretches c.block-block.result ps some c.length-length.ensures.rope.normal in
+    let block = ap (λ n. length (stretches n (spots_of ps))) c.block-block.ensures.value in
+    omega (arith, c.loop-k.invariant.steps, all, same, block)

@@ -4,7 +4,8 @@ use Rattle.voice_units.specs.Blocks.{pairs_at, has_pair}
 use Rattle.rope_table.specs.Table.{uses_at}
 use Rattle.rope_table.proofs.Blocks.{in_run}
 use Rattle.voice_blocks.specs.Holders.{EachBecomes}
-use Rattle.collector.specs.Freed.{freed, spans}
+use Rattle.collector.specs.Freed.{freed}
+use Rattle.collector.proofs.Stretched.{spans}
 use Rattle.collector.proofs.releasing.drop_unused.Given as goal
 
 abbrev pub invariant-loop-k : goal.invariant-loop-k

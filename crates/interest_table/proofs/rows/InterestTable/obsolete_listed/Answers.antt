@@ -1,6 +1,8 @@
-use Rattle.std.proofs.Common.{◌≡◌, ◌++◌, ◌-◌, ◌+◌, ◌∙◌, length, ap, arith, rules}
+use Rattle.std.proofs.Common.{◌≡◌, ℕ, List, subst, ◌++◌, ◌-◌, ◌+◌, ◌∙◌, length, ap, arith, rules}
 use Rattle.std.proofs.lemmas.Map.Iter.{rest_more, rest_all}
 use Rattle.std.specs.Map.Iter.{deref}
+use Rattle.std.specs.List.{list_any}
+use Rattle.std.specs.Prelude.{bytes_eq}
 use Rattle.voice_model.specs.Changes.{is_unlisted, unlisted_keys}
 use Rattle.interest_table.proofs.Keys.{key_taken, first_keys, same_unlisted, none_left}
 use Rattle.interest_table.proofs.rows.InterestTable.obsolete_listed.Goals as goal
@@ -24,4 +26,5 @@ loop-row-preserved-then-is_absent c =
 pub returns : goal.returns
 returns c =
     c.of.ensures ∙ none_left (is_unlisted c.in_ok-named.named.keys) _ _ _ _ (rest_all deref _ _ _ c.in-None.is c.next.ensures.steps) c.loop-row.invariant.0
-    ∙ same_unlisted c.in_ok-named.named.keys c.args.census.now c.args.self.now.rows c.in_ok-named.ensures
+    ∙ same_unlisted c.in_ok-named.named.keys c.args.census.now c.args.self.now.rows
+    (subst (λ (l : List (List ℕ)). (key : List ℕ) → list_any (bytes_eq key) c.in_ok-named.named.keys ≡ list_any (bytes_eq key) l) c.items.ensures c.in_ok-named.ensures)

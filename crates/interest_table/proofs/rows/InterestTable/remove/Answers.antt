@@ -1,13 +1,14 @@
 use Rattle.std.proofs.Common.{◌∙◌, ap, sym, map}
 use Rattle.voice_model.specs.State.{row_at}
 use Rattle.interest_table.specs.Inside.{row_in}
-use Rattle.interest_table.proofs.Found.{lookup_is, remove_is, tested, one_row_gone, others}
+use Rattle.interest_table.proofs.Found.{lookup_is, remove_is, tested, others}
+use Rattle.interest_table.proofs.Told.{one_row_gone}
 use Rattle.interest_table.proofs.rows.InterestTable.remove.Goals as goal
 
 pub invariant_of-self-2 : goal.invariant_of-self-2
 invariant_of-self-2 c =
-    one_row_gone c.self.inside.rows c.shift_remove.new.self c.self.inside.counts c.drop_one.new.counts c.args.class c.args.key.now c.in-Some.row c.self.invariant c.shift_remove.ensures.entries
-    (sym (c.in-Some.ensures.value ∙ lookup_is _ c.args.class c.args.key.now (tested c.args.class c.args.key.now) c.self.inside.rows.entries c.self.invariant.named)) c.drop_one.ensures.count
+    one_row_gone c.self.inside.rows c.shift_remove.new.self c.self.inside.tally c.lose.new.tally c.args.class c.args.key.now c.in-Some.row c.self.invariant c.shift_remove.ensures.entries
+    (sym (c.in-Some.ensures.value ∙ lookup_is _ c.args.class c.args.key.now (tested c.args.class c.args.key.now) c.self.inside.rows.entries c.self.invariant.named)) c.lose.ensures
 
 pub returns-in_default-clause-value : goal.returns-in_default-clause-value
 returns-in_default-clause-value c =

@@ -1,5 +1,7 @@
+use Rattle.std.proofs.Common.{refl}
 use Rattle.interest_table.proofs.Found.{still_table}
 use Rattle.interest_table.proofs.rows.InterestTable.reserve.Goals as goal
 
 pub invariant_of-self-2 : goal.invariant_of-self-2
-invariant_of-self-2 c = still_table c.self.inside.rows c.reserve.new.self c.self.inside.counts c.reserve-2.new.self c.self.invariant c.in_ok-reserve.ensures.entries c.in_ok-reserve-2.ensures.entries
+invariant_of-self-2 c =
+    still_table c.self.inside.rows c.reserve.new.self c.self.inside.tally _ c.self.invariant c.in_ok-reserve.ensures.entries c.in_ok-reserve-2.ensures.entries refl refl

@@ -3,8 +3,8 @@ use Rattle.std.specs.List.{list_any}
 use Rattle.std.specs.Prelude.{bytes_eq}
 use Rattle.voice_model.specs.State.{class_number}
 use Rattle.interest_table.proofs.Found.{any_same_key}
-use Rattle.interest_table.proofs.rows.is_absent.Goals as goal
-use Rattle.interest_table.proofs.rows.is_absent.Goals.{in-Listed, in_default}
+use Rattle.interest_table.proofs.going.is_absent.Goals as goal
+use Rattle.interest_table.proofs.going.is_absent.Goals.{in-Listed, in_default}
 
 is_listed : (c : goal.After-contains) → (class_number c.args.row.now.class == 3) ≡ true
 is_listed c = elim c.match-matches.branch [ in-Listed w ↦ ap (λ k. class_number k == 3) w.in-Listed.is | in_default w ↦ cc ]

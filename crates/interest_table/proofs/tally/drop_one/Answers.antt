@@ -2,7 +2,7 @@ use Rattle.std.proofs.Common.{◌∙◌, sym, ap, subst, refl, cond, Some, Optio
 use Rattle.std.specs.Prelude.{nat_eq, IsSome}
 use Rattle.indexmap.specs.IndexMap.{get}
 use Rattle.interest_table.proofs.Found.{one_row_less}
-use Rattle.interest_table.proofs.rows.drop_one.Goals as goal
+use Rattle.interest_table.proofs.tally.drop_one.Goals as goal
 
 pub returns-clause-count : goal.returns-clause-count
 returns-clause-count c other =

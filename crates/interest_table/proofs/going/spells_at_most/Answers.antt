@@ -1,7 +1,6 @@
--- A number that is above the moment already stays so.
 use Rattle.std.proofs.Common.{nat_le, ap, ◌∙◌, fold}
 use Rattle.interest_table.proofs.Keys.{too_large, and_byte}
-use Rattle.collector.proofs.sweeping.spells_at_most.Goals as goal
+use Rattle.interest_table.proofs.going.spells_at_most.Goals as goal
 
 pub returns-then-number-most : goal.returns-then-number-most
 returns-then-number-most c =

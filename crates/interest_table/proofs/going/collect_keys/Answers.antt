@@ -4,10 +4,10 @@ use Rattle.std.proofs.lemmas.Iterator.Adapters.{fact_from_collect}
 use Rattle.std.proofs.lemmas.Iterator.Consumers.{YieldsList-from_copied}
 use Rattle.interest_table.proofs.Found.{same_key}
 use Rattle.interest_table.proofs.Keys.{named_by}
-use Rattle.interest_table.proofs.rows.named_keys.Goals as goal
+use Rattle.interest_table.proofs.going.collect_keys.Goals as goal
 
 pub returns : goal.returns
 returns c =
-    let road = YieldsList-from_copied (YieldsList-from_slice c.args.census.now cc) in
+    let road = YieldsList-from_copied (YieldsList-from_slice c.args.keys.now cc) in
     let got = fact_from_collect (λ ys s. bag.IsFromIterResult same_key ys s) c.collect.result c.collect.ensures.ran road in
-    named_by c.collect.result c.args.census.now got
+    named_by c.collect.result c.args.keys.now got

@@ -1,0 +1,29 @@
+use Rattle.std.proofs.Common.{List, filter, sym, ◌∙◌, subst}
+use Rattle.std.proofs.lemmas.Map.Iter.{rest_more, rest_all}
+use Rattle.std.specs.Map.Iter.{deref}
+use Rattle.voice_model.specs.Changes.{is_expired}
+use Rattle.voice_model.specs.declared.calls.Row.{Row}
+use Rattle.interest_table.specs.Inside.{Lost}
+use Rattle.interest_table.proofs.Told.{none_lost, lost_front, not_lost_front}
+use Rattle.interest_table.proofs.rows.lose_expired.Goals as goal
+
+pub loop-row-init : goal.loop-row-init
+loop-row-init c = λ end lost.
+    subst (λ (l : List Row). Lost c.args.tally.now end (filter (is_expired c.args.now) l)) (c.into_iter-row-iterator.ensures.into_iter_gives ∙ c.values-row-items.ensures.rest) lost
+
+pub loop-row-preserved-then-has_expired : goal.loop-row-preserved-then-has_expired
+loop-row-preserved-then-has_expired c = λ end lost.
+    c.loop-row.invariant end
+    (lost_front (is_expired c.args.now) c.loop-row.tally c.lose.new.tally end c.in-Some.row.now c.loop-row.row-iterator c.next.new.self
+    (rest_more deref _ _ _ c.in-Some.row c.in-Some.is c.next.ensures.steps) (sym c.has_expired.ensures ∙ c.if-has_expired.true) c.lose.ensures lost)
+
+pub loop-row-preserved : goal.loop-row-preserved
+loop-row-preserved c = λ end lost.
+    c.loop-row.invariant end
+    (not_lost_front (is_expired c.args.now) c.loop-row.tally end c.in-Some.row.now c.loop-row.row-iterator c.next.new.self
+    (rest_more deref _ _ _ c.in-Some.row c.in-Some.is c.next.ensures.steps) (sym c.has_expired.ensures ∙ c.if-has_expired.false) lost)
+
+pub returns : goal.returns
+returns c =
+    c.loop-row.invariant c.loop-row.tally
+    (subst (λ (l : List Row). Lost c.loop-row.tally c.loop-row.tally (filter (is_expired c.args.now) l)) (sym (rest_all deref _ _ _ c.in-None.is c.next.ensures.steps)) (none_lost c.loop-row.tally))
