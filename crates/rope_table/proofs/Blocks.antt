@@ -173,7 +173,7 @@ with_front ps p q was is step has e =
     (λ t. ap (λ b. b || (has_pair ps q && not (is q))) t ∙ ap (λ b. has_pair ps q && not b) (step q ∙ ap (λ b. b || was q) (same_swap p q ∙ t)))
     ∙ sym (has_filter (λ r. not (was r)) ps q)
 
-front_counts : (ps : List BlockPair) (p : BlockPair) → has_pair ps p ≡ false → length (distinct (p ∷ ps)) ≡ suc (length (distinct ps))
+pub front_counts : (ps : List BlockPair) (p : BlockPair) → has_pair ps p ≡ false → length (distinct (p ∷ ps)) ≡ suc (length (distinct ps))
 front_counts ps p e = ap (λ b. length (cond b (distinct ps) (p ∷ distinct ps))) (has_pair-distinct ps p ∙ e)
 
 abbrev pub made : Bool → ℕ

@@ -1,7 +1,11 @@
 pub mod InOrder
 pub mod ById
 pub mod Edited
+pub mod Totals
 pub mod Blocks
+pub mod Sums
+pub mod Lives
+pub mod Filings
 pub mod Passes
 pub mod Wholes
 pub mod Checked

@@ -1,13 +1,14 @@
 -- The parts of the table still tell of the same ropes as one of them comes, goes or changes.
-use Rattle.std.proofs.Common.{◌≡◌, ℕ, suc, ◌+◌, ◌%◌, ◌<◌, ◌≤◌, List, [], ◌∷◌, ◌++◌, length, map, filter, Bool, true, false, not, ◌==◌, cond, Some, None, refl, sym, ◌∙◌, ap, subst, arith}
-use Rattle.std.proofs.lemmas.Bool.{ne_eqb}
+use Rattle.std.proofs.Common.{◌≡◌, ℕ, suc, ◌+◌, ◌%◌, ◌<◌, ◌≤◌, List, [], ◌∷◌, ◌++◌, length, map, filter, Bool, true, false, not, ◌||◌, ◌==◌, nat_lt, cond, Some, None, refl, sym, ◌∙◌, ap, subst, arith}
+use Rattle.std.proofs.lemmas.Bool.{ne_eqb, lt-ltb}
+use Rattle.std.proofs.lemmas.List.Folds.{list_any-append}
 use mathlib.Core.Bool.{beq}
 use Rattle.voice_units.specs.declared.Piece.{Piece}
 use Rattle.voice_units.specs.Spots.{spots_of}
 use Rattle.voice_units.specs.Blocks.{BlockPair, pairs_at, has_pair, same_pair, distinct}
 use Rattle.rope_table.specs.declared.ropes.Rope.{Rope}
 use Rattle.rope_table.specs.declared.dues.Due.{Due}
-use Rattle.rope_table.specs.Table.{Counts, is_sooner, is_lower, Every, IsInOrder, rope_of, with_rope, without_rope, with_due, due_of, due_at, index_of, uses_by, uses_in, uses_counted, unused, pieces_in}
+use Rattle.rope_table.specs.Table.{Counts, is_sooner, is_lower, Every, IsInOrder, rope_of, with_rope, without_rope, with_due, due_of, due_at, index_of, uses_by, uses_in, uses_counted, live_counted, unused, pieces_in, pairs_in}
 use Rattle.rope_table.specs.Inside.{Ropes, Dues, Uses, IsWhole, seen}
 use Rattle.rope_table.proofs.InOrder.{split, every_put, in_order-put, Apart}
 use Rattle.rope_table.proofs.ById.{changed, gone, lower_through}
@@ -16,8 +17,8 @@ use Rattle.rope_table.proofs.Edited.{as_put, put_again, id_of, uses_with, index_
 
 -- the parts tell of these ropes
 pub make_whole : (r : Ropes) (d : Dues) (u : Uses) (block : ℕ) (ropes : List Rope) → u.block ≡ block → r.ropes ≡ ropes → IsInOrder is_lower ropes → Every (λ rope. rope.last ≤ 3) ropes
-    → ((q : BlockPair) → uses_in block (pieces_in ropes) q ≤ uses_counted u.counts q) → block % 8 ≡ 0 → 8 ≤ block → block ≤ 8192 → d.dues ≡ index_of ropes → length ropes ≤ d.room → IsWhole r d u
-make_whole r d u block ropes same is order classes covers words least most ordered room = record {
+    → ((q : BlockPair) → uses_in block (pieces_in ropes) q ≤ uses_counted u.counts q) → block % 8 ≡ 0 → 8 ≤ block → block ≤ 8192 → d.dues ≡ index_of ropes → length ropes ≤ d.room → ((q : BlockPair) → live_counted u.counts q ≡ uses_in block (pieces_in ropes) q) → IsWhole r d u
+make_whole r d u block ropes same is order classes covers words least most ordered room live = record {
   table = record {
     rising = subst (λ (l : List Rope). IsInOrder is_lower l) (sym is) order;
     classes = subst (λ (l : List Rope). Every (λ rope. rope.last ≤ 3) l) (sym is) classes;
@@ -26,6 +27,7 @@ make_whole r d u block ropes same is order classes covers words least most order
     least = subst (λ n. 8 ≤ n) (sym same) least;
     most = subst (λ n. n ≤ 8192) (sym same) most;
   };
+  live = λ q. subst (λ n. live_counted u.counts q ≡ uses_in n (pieces_in r.ropes) q) (sym same) (subst (λ (l : List Rope). live_counted u.counts q ≡ uses_in block (pieces_in l) q) (sym is) (live q));
   ordered = ordered ∙ ap index_of (sym is);
   room = subst (λ (l : List Rope). length l ≤ d.room) (sym is) room;
 }
@@ -37,8 +39,8 @@ apart_now due ropes dues is none = subst (λ (l : List Due). Apart is_sooner due
 
 pub whole_added : (r r' : Ropes) (d d' : Dues) (u u' : Uses) (rope : Rope) → IsWhole r d u → rope_of r.ropes rope.id ≡ None → rope.last ≤ 3 → rope.kept ≡ false
     → r'.ropes ≡ with_rope rope r.ropes → d'.dues ≡ with_due (due_of rope) d.dues → length r.ropes < d'.room → u'.block ≡ u.block
-    → ((q : BlockPair) → uses_counted u'.counts q ≡ uses_counted u.counts q + uses_by u.block rope.pieces q) → IsWhole r' d' u'
-whole_added r r' d d' u u' rope h none class kept is dues room block uses =
+    → ((q : BlockPair) → uses_counted u'.counts q ≡ uses_counted u.counts q + uses_by u.block rope.pieces q) → ((q : BlockPair) → live_counted u'.counts q ≡ live_counted u.counts q + uses_by u.block rope.pieces q) → IsWhole r' d' u'
+whole_added r r' d d' u u' rope h none class kept is dues room block uses live =
     make_whole r' d' u' u.block (with_rope rope r.ropes) block is
     (in_order-put is_lower lower_through rope r.ropes (apart_from rope r.ropes none) h.table.rising)
     (every_put (λ rope. rope.last ≤ 3) is_lower rope r.ropes class h.table.classes)
@@ -46,6 +48,7 @@ whole_added r r' d d' u u' rope h none class kept is dues room block uses =
     h.table.words h.table.least h.table.most
     (dues ∙ ap (with_due (due_of rope)) h.ordered ∙ sym (ap (λ b. cond b (index_of r.ropes) (with_due (due_of rope) (index_of r.ropes))) kept) ∙ sym (index_of-with rope r.ropes none))
     (let more = length-with rope r.ropes in omega (arith, more, room))
+    (λ q. let all = uses_with u.block q rope r.ropes in let was = h.live q in let now = live q in omega (arith, all, was, now))
 
 -- ---- the rope of a number among the others
 
@@ -88,6 +91,7 @@ whole_changed r r' d d' u id g rope h found named same class is dues room =
     h.table.words h.table.least h.table.most
     (dues ∙ sym (index_of-with (g rope) rest none))
     (let more = length-with (g rope) rest in let was = one_more id r.ropes rope h.table.rising found in omega (arith, more, was, h.room, room))
+    (λ q. let all = uses_with u.block q (g rope) rest in let was = h.live q in let parts = uses_split id r.ropes rope h.table.rising found u.block q in let one = ap (λ ps. uses_by u.block ps q) same in omega (arith, all, was, parts, one))
 
 -- the held passages are counted as before
 pub same_uses : (block id : ℕ) (g : Rope → Rope) (ropes : List Rope) (rope : Rope) (q : BlockPair) → IsInOrder is_lower ropes → rope_of ropes id ≡ Some rope → (g rope).id ≡ id → (g rope).pieces ≡ rope.pieces → uses_in block (pieces_in (map (changed id g) ropes)) q ≡ uses_in block (pieces_in ropes) q
@@ -125,12 +129,13 @@ counts_without r r' d d' u u' id rope held order found is block uses h = λ q.
 
 pub whole_without : (r r' : Ropes) (d d' : Dues) (u u' : Uses) (id : ℕ) (rope : Rope) → IsWhole r d u → rope_of r.ropes id ≡ Some rope
     → r'.ropes ≡ without_rope id r.ropes → d'.dues ≡ index_of (without_rope id r.ropes) → d'.room ≡ d.room → u'.block ≡ u.block
-    → ((q : BlockPair) → uses_counted u'.counts q + uses_by u.block rope.pieces q ≡ uses_counted u.counts q) → IsWhole r' d' u'
-whole_without r r' d d' u u' id rope h found is dues room block uses =
+    → ((q : BlockPair) → uses_counted u'.counts q + uses_by u.block rope.pieces q ≡ uses_counted u.counts q) → ((q : BlockPair) → live_counted u'.counts q + uses_by u.block rope.pieces q ≡ live_counted u.counts q) → IsWhole r' d' u'
+whole_without r r' d d' u u' id rope h found is dues room block uses live =
     make_whole r' d' u' u.block (without_rope id r.ropes) block is (in_order-without id r.ropes h.table.rising) (every_without (λ rope. rope.last ≤ 3) id r.ropes h.table.classes)
     (λ q. let was = h.table.covers q in let now = uses q in let parts = uses_split id r.ropes rope h.table.rising found u.block q in omega (arith, was, now, parts))
     h.table.words h.table.least h.table.most dues
     (let was = one_more id r.ropes rope h.table.rising found in omega (arith, was, h.room, room))
+    (λ q. let was = h.live q in let now = live q in let parts = uses_split id r.ropes rope h.table.rising found u.block q in omega (arith, was, now, parts))
 
 -- ---- passages
 
@@ -196,8 +201,33 @@ used_by_live r d u id rope q h found has =
     let all = h.table.covers q in
     omega (arith, parts, one, all)
 
+-- a live rope has no block that it does not use
+pub live_least : (r : Ropes) (d : Dues) (u : Uses) (id : ℕ) (rope : Rope) (q : BlockPair) → IsWhole r d u → rope_of r.ropes id ≡ Some rope → has_pair (pairs_at u.block (spots_of rope.pieces)) q ≡ true → 1 ≤ live_counted u.counts q
+live_least r d u id rope q h found has =
+    let parts = uses_split id r.ropes rope h.table.rising found u.block q in
+    let one : uses_by u.block rope.pieces q ≡ 1 = ap (λ b. cond b 1 0) has in
+    let all = h.live q in
+    omega (arith, parts, one, all)
+
+-- no more live ropes than uses
+pub live_within : (r : Ropes) (d : Dues) (u : Uses) (q : BlockPair) → IsWhole r d u → live_counted u.counts q ≤ uses_counted u.counts q
+live_within r d u q h = let live = h.live q in let all = h.table.covers q in omega (arith, live, all)
+
+-- a block is used exactly where it is among those of the lists
+used_where : (block : ℕ) (lists : List (List Piece)) (q : BlockPair) → has_pair (pairs_in block lists) q ≡ nat_lt 0 (uses_in block lists q)
+used_where block [] q = refl
+used_where block (ps ∷ lists) q =
+    let rest = used_where block lists q in
+    list_any-append (same_pair q) (pairs_at block (spots_of ps)) (pairs_in block lists)
+    ∙ split (has_pair (pairs_at block (spots_of ps)) q)
+    (λ e. ap (λ b. b || has_pair (pairs_in block lists) q) e ∙ sym (ap (λ b. nat_lt 0 (cond b 1 0 + uses_in block lists q)) e ∙ lt-ltb 0 (1 + uses_in block lists q) (omega arith)))
+    (λ e. ap (λ b. b || has_pair (pairs_in block lists) q) e ∙ rest ∙ sym (ap (λ b. nat_lt 0 (cond b 1 0 + uses_in block lists q)) e ∙ ap (nat_lt 0) (omega arith)))
+
+pub live_where : (r : Ropes) (d : Dues) (u : Uses) (q : BlockPair) → IsWhole r d u → has_pair (pairs_in u.block (pieces_in r.ropes)) q ≡ nat_lt 0 (live_counted u.counts q)
+live_where r d u q h = used_where u.block (pieces_in r.ropes) q ∙ sym (ap (nat_lt 0) (h.live q))
+
 pub whole_same : (r r' : Ropes) (d : Dues) (u : Uses) → IsWhole r d u → r'.ropes ≡ r.ropes → IsWhole r' d u
-whole_same r r' d u h is = make_whole r' d u u.block r.ropes refl is h.table.rising h.table.classes h.table.covers h.table.words h.table.least h.table.most h.ordered h.room
+whole_same r r' d u h is = make_whole r' d u u.block r.ropes refl is h.table.rising h.table.classes h.table.covers h.table.words h.table.least h.table.most h.ordered h.room h.live
 
 pub counts_same : (r r' : Ropes) (d : Dues) (u : Uses) (held : List (List Piece)) → r'.ropes ≡ r.ropes → Counts (seen r d u) held → Counts (seen r' d u) held
 counts_same r r' d u held is h = λ q. h q ∙ ap (λ l. uses_in u.block (pieces_in l) q + uses_in u.block held q) (sym is)

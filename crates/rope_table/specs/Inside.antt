@@ -1,13 +1,20 @@
 -- What the table holds.
 --     Ropes, Dues, Uses      the ropes, the order in which they are due, and the uses of blocks, each with its room
 --     place_of test xs, IsAt ropes id i      how many elements in front pass a test;  the rope of a number stands at this place
---     count_in, is_entered      a block's count, 0 and not marked where there is none;  whether a count is entered
---     touched pass count      what a pass makes of the count of a block
---     missing counts pairs      how many blocks have no count yet
---     AreSettled counts      no block is marked
+--     AreLive ropes pieces      the ropes are in rising number, not too many, and have so many pieces
+--     Tallied      the counts of blocks
+--     found_in, entered_in entries pair; count_in, is_entered      a block's entry, if it has one;  a block's count, 0 and not marked where there is none, and whether it is entered
+--     once, is_live, live_in entries      1 where it holds;  whether a live rope has the block of a count;  how many entries are of such blocks
+--     touched live pass count      what a pass makes of the count of a block
+--     missing tally pairs      how many blocks have no count yet
+--     in_file, live_in_file f e, weight_found weigh name count      1 for an entry of a file, or of one that is live;  what a found entry weighs
+--     IsTallied counts files live      the numbers of such entries are kept
+--     AreSettled tally      no block is marked
 --     seen, IsWhole      the table of these parts;  the parts tell of the same ropes
-use Rattle.std.specs.Prelude.{◌≡◌, ℕ, suc, ◌+◌, ◌-◌, ◌≤◌, ◌<◌, min, nat_lt, nat_le, Bool, true, false, not, ◌&&◌, ◌||◌, ◌==◌, cond, List, [], ◌∷◌, length, filter, slice_get, is_some, IsSome}
-use Rattle.std.specs.HashMap.{get, HashMap}
+use Rattle.std.specs.Prelude.{◌≡◌, ℕ, suc, ◌+◌, ◌-◌, ◌^◌, ◌≤◌, ◌<◌, min, nat_lt, nat_le, Bool, true, false, not, ◌&&◌, ◌||◌, ◌==◌, cond, List, [], ◌∷◌, length, filter, slice_get, Option, option_map, unwrap_or, is_some, IsSome}
+use Rattle.std.specs.HashMap.{HashMap}
+use Rattle.std.specs.List.{sum_by}
+use Rattle.std.specs.Map.{lookup}
 use Rattle.voice_units.specs.Blocks.{BlockPair, distinct}
 use Rattle.rope_table.specs.declared.ropes.Rope.{Rope}
 use Rattle.rope_table.specs.declared.dues.Due.{Due}
@@ -15,7 +22,8 @@ use Rattle.rope_table.specs.declared.counts.BlockName.{BlockName}
 use Rattle.rope_table.specs.declared.counts.Count.{Count}
 use Rattle.rope_table.specs.declared.counts.Pass.{Pass}
 use Rattle.rope_table.specs.declared.counts.Pass.TheVariants.{Raise, Lower, Settle}
-use Rattle.rope_table.specs.Table.{Table, IsTable, rope_of, index_of, name_eq, name_of, count_of}
+use Rattle.rope_table.specs.Files.{Filed, file_of}
+use Rattle.rope_table.specs.Table.{Table, IsTable, Every, IsInOrder, is_lower, rope_of, piece_count, index_of, name_eq, name_of, count_of, live_counted, uses_in, pieces_in}
 
 -- how many elements in front pass a test
 abbrev pub place_of : {A : Type 0} → (A → Bool) → List A → ℕ
@@ -41,6 +49,13 @@ pub record IsAt (ropes : List Rope) (id i : ℕ) : Type 0 where
   pub found : slice_get ropes i ≡ rope_of ropes id
   pub some : IsSome (rope_of ropes id)
 
+-- ropes in rising number, not too many, each with no more pieces than a rope has, and so many of these in all
+pub record AreLive (ropes : List Rope) (pieces : ℕ) : Type 0 where
+  pub order : IsInOrder is_lower ropes
+  pub few : length ropes ≤ 2 ^ 31
+  pub short : Every (λ rope. length rope.pieces < 2 ^ 32) ropes
+  pub total : pieces ≡ piece_count ropes
+
 -- the ropes in rising number, and how many fit without memory
 pub record Ropes : Type 0 where
   pub ropes : List Rope
@@ -60,29 +75,70 @@ pub record Uses : Type 0 where
 abbrev pub pair_named : BlockName → BlockPair
 pair_named name = record { file = name.file; index = name.index }
 
--- a block's count, 0 and not marked where there is none
-abbrev pub count_in : {S : Type 0} → HashMap BlockName Count S → BlockPair → Count
-count_in counts pair = count_of counts.entries pair
+-- the counts of blocks, and how many more fit without memory
+pub record Tallied : Type 0 where
+  pub counts : List (BlockName × Count)
+  pub spare : ℕ
 
--- whether a count is entered
-abbrev pub is_entered : {S : Type 0} → HashMap BlockName Count S → BlockPair → Bool
-is_entered counts pair = is_some (get name_eq counts (name_of pair))
+-- the count of a block among entries
+abbrev pub found_in : List (BlockName × Count) → BlockPair → Option Count
+found_in counts pair = lookup (name_eq (name_of pair)) counts
+
+-- whether a block has a count among entries
+abbrev pub entered_in : List (BlockName × Count) → BlockPair → Bool
+entered_in counts pair = is_some (found_in counts pair)
+
+-- a block's count, 0 and not marked where there is none
+abbrev pub count_in : Tallied → BlockPair → Count
+count_in tally pair = count_of tally.counts pair
+
+-- whether a block's count is entered
+abbrev pub is_entered : Tallied → BlockPair → Bool
+is_entered tally pair = entered_in tally.counts pair
+
+-- 1 where it holds, else 0
+abbrev pub once : Bool → ℕ
+once b = cond b 1 0
+
+-- whether a live rope has the block of a count
+abbrev pub is_live : Count → Bool
+is_live count = nat_lt 0 count.live
+
+-- 1 for the count of a block that a live rope has, else 0
+abbrev pub live_once : Count → ℕ
+live_once count = once (is_live count)
+
+-- how many entries are of blocks that live ropes have
+abbrev pub live_in : List (BlockName × Count) → ℕ
+live_in counts = sum_by (λ e. live_once e.1) counts
+
+-- 1 for a block of a file, else 0
+abbrev pub in_file : ℕ → BlockName × Count → ℕ
+in_file f e = once (e.0.file == f)
+
+-- 1 for a block of a file that live ropes have, else 0
+abbrev pub live_in_file : ℕ → BlockName × Count → ℕ
+live_in_file f e = once ((e.0.file == f) && is_live e.1)
+
+-- what the entry of a block weighs, 0 where there is none
+abbrev pub weight_found : (BlockName × Count → ℕ) → BlockName → Option Count → ℕ
+weight_found weigh name count = unwrap_or (option_map (λ c. weigh (name, c)) count) 0
 
 -- what a pass makes of the count of a block: one more or one less and marked, unless it was marked; or not marked
-abbrev pub touched : Pass → Count → Count
-touched Raise count = record { uses = cond count.marked count.uses (count.uses + 1); marked = true }
-touched Lower count = record { uses = cond count.marked count.uses (count.uses - 1); marked = true }
-touched Settle count = record { uses = count.uses; marked = false }
+abbrev pub touched : Bool → Pass → Count → Count
+touched live Raise count = record { uses = cond count.marked count.uses (count.uses + 1); live = cond count.marked count.live (count.live + once live); marked = true }
+touched live Lower count = record { uses = cond count.marked count.uses (count.uses - 1); live = cond count.marked count.live (count.live - once live); marked = true }
+touched live Settle count = record { uses = count.uses; live = count.live; marked = false }
 
 -- how many blocks have no count yet
-abbrev pub missing : {S : Type 0} → HashMap BlockName Count S → List BlockPair → ℕ
-missing counts pairs = length (distinct (filter (λ pair. not (is_entered counts pair)) pairs))
+abbrev pub missing : Tallied → List BlockPair → ℕ
+missing tally pairs = length (distinct (filter (λ pair. not (is_entered tally pair)) pairs))
 
 -- how many counts a pass enters
-abbrev pub needed : {S : Type 0} → Pass → HashMap BlockName Count S → List BlockPair → ℕ
-needed Raise counts pairs = missing counts pairs
-needed Lower counts pairs = 0
-needed Settle counts pairs = 0
+abbrev pub needed : Pass → Tallied → List BlockPair → ℕ
+needed Raise tally pairs = missing tally pairs
+needed Lower tally pairs = 0
+needed Settle tally pairs = 0
 
 -- how many entries a pass makes for a block, which is entered or not
 abbrev pub entries_made : Pass → Bool → ℕ
@@ -90,13 +146,19 @@ entries_made Raise entered = cond entered 0 1
 entries_made Lower entered = 0
 entries_made Settle entered = 0
 
+-- the number of entries of blocks that live ropes have is kept, and in each file the number of entries and of those
+pub record IsTallied {S : Type 0} (counts : HashMap BlockName Count S) (files : Filed) (live : ℕ) : Type 0 where
+  pub total : live ≡ live_in counts.entries
+  pub counted : (f : ℕ) → (file_of files.files f).counted ≡ sum_by (in_file f) counts.entries
+  pub lives : (f : ℕ) → (file_of files.files f).live ≡ sum_by (live_in_file f) counts.entries
+
 -- no block is marked
-abbrev pub AreSettled : {S : Type 0} → HashMap BlockName Count S → Type 0
-AreSettled counts = (pair : BlockPair) → (count_in counts pair).marked ≡ false
+abbrev pub AreSettled : Tallied → Type 0
+AreSettled tally = (pair : BlockPair) → (count_in tally pair).marked ≡ false
 
 -- the counts of blocks of a size that a disk can have
-pub record AreCounts {S : Type 0} (block : ℕ) (counts : HashMap BlockName Count S) : Type 0 where
-  pub settled : AreSettled counts
+pub record AreCounts (block : ℕ) (tally : Tallied) : Type 0 where
+  pub settled : AreSettled tally
   pub some : 0 < block
 
 -- the table of these parts
@@ -112,5 +174,6 @@ seen ropes dues counts = record {
 -- the parts tell of the same ropes, and each of them has room to be due
 pub record IsWhole (ropes : Ropes) (dues : Dues) (counts : Uses) : Type 0 where
   pub table : IsTable (seen ropes dues counts)
+  pub live : (pair : BlockPair) → live_counted counts.counts pair ≡ uses_in counts.block (pieces_in ropes.ropes) pair
   pub ordered : dues.dues ≡ index_of ropes.ropes
   pub room : length ropes.ropes ≤ dues.room

@@ -4,13 +4,17 @@
 --     rope_of ropes id, number_above ropes id      the rope of a number;  the lowest number above one
 --     with_rope rope ropes, without_rope id ropes      a rope put in by its number;  the ropes without that of a number
 --     idled, held_back      what becomes of a rope as that of a number is idle since another moment, or is kept or no longer kept
+--     piece_count ropes      how many pieces ropes have in all
 --     made_rope      the rope of these parts, which no row keeps
 --     uses_by block ps pair, uses_in block lists pair      1 where pieces have a block, else 0;  how many lists of pieces have it
+--     pairs_in block lists, block_count block ropes      the blocks that lists of pieces have;  how many blocks ropes have
+--     files_of pairs, file_count block ropes      the files of blocks, each once;  how many voice files ropes have samples of
 --     count_of counts pair      the count of a block, 0 and not marked where there is none
 --     index_of ropes      when each rope that no row keeps is due, by moment and number
 --     Table, uses_at table pair, Counts table held, new_pairs table ps      the whole;  how many use a block;  the uses are those of live ropes and held passages;  how many blocks of pieces nothing uses yet
 --     IsTable table      what each table keeps
-use Rattle.std.specs.Prelude.{◌≡◌, ℕ, ◌+◌, ◌%◌, ◌≤◌, Bool, true, false, ◌&&◌, ◌||◌, not, cond, ◌==◌, nat_lt, List, [], ◌∷◌, map, filter, length, Option, Some, None, option_map, unwrap_or}
+use Rattle.std.specs.Prelude.{◌≡◌, ℕ, ◌+◌, ◌%◌, ◌≤◌, Bool, true, false, ◌&&◌, ◌||◌, not, cond, ◌==◌, nat_lt, List, [], ◌∷◌, ◌++◌, map, filter, length, Option, Some, None, option_map, unwrap_or}
+use Rattle.std.specs.List.{list_any}
 use Rattle.std.specs.Map.{lookup}
 use Rattle.voice_units.specs.declared.pieces.Piece.{Piece}
 use Rattle.voice_units.specs.Spots.{spots_of}
@@ -74,6 +78,11 @@ held_back id kept rope = cond (rope.id == id) (record rope { kept = kept }) rope
 abbrev pub made_rope : ℕ → List Piece → ℕ → ℕ → ℕ → Rope
 made_rope id pieces idle last wait = record { id = id; pieces = pieces; idle = idle; last = last; wait = wait; kept = false }
 
+-- how many pieces ropes have in all
+abbrev pub piece_count : List Rope → ℕ
+piece_count [] = 0
+piece_count (rope ∷ ropes) = length rope.pieces + piece_count ropes
+
 -- ---- the parts of the rope of a number
 
 abbrev pub pieces_at : List Rope → ℕ → Option (List Piece)
@@ -116,7 +125,7 @@ abbrev pub name_of : BlockPair → BlockName
 name_of pair = record { file = pair.file; index = pair.index }
 
 abbrev pub no_count : Count
-no_count = record { uses = 0; marked = false }
+no_count = record { uses = 0; live = 0; marked = false }
 
 -- a block's count, 0 and not marked where there is none
 abbrev pub count_of : List (BlockName × Count) → BlockPair → Count
@@ -124,6 +133,32 @@ count_of counts pair = unwrap_or (lookup (name_eq (name_of pair)) counts) no_cou
 
 abbrev pub uses_counted : List (BlockName × Count) → BlockPair → ℕ
 uses_counted counts pair = (count_of counts pair).uses
+
+-- how many live ropes have a block, as its count tells
+abbrev pub live_counted : List (BlockName × Count) → BlockPair → ℕ
+live_counted counts pair = (count_of counts pair).live
+
+-- the blocks that lists of pieces have
+abbrev pub pairs_in : ℕ → List (List Piece) → List BlockPair
+pairs_in block [] = []
+pairs_in block (ps ∷ lists) = pairs_at block (spots_of ps) ++ pairs_in block lists
+
+-- how many blocks ropes have
+abbrev pub block_count : ℕ → List Rope → ℕ
+block_count block ropes = length (distinct (pairs_in block (pieces_in ropes)))
+
+-- whether a block of a file is in a list
+abbrev pub has_file : List BlockPair → ℕ → Bool
+has_file pairs f = list_any (λ p. p.file == f) pairs
+
+-- the files of blocks, each once
+abbrev pub files_of : List BlockPair → List ℕ
+files_of [] = []
+files_of (p ∷ ps) = cond (has_file ps p.file) (files_of ps) (p.file ∷ files_of ps)
+
+-- how many voice files ropes have samples of
+abbrev pub file_count : ℕ → List Rope → ℕ
+file_count block ropes = length (files_of (pairs_in block (pieces_in ropes)))
 
 -- ---- when ropes are due
 

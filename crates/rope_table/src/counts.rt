@@ -1,13 +1,17 @@
-//! How many live ropes and held passages use each block.
+//! How many live ropes and held passages use each block, and how many blocks live ropes use.
 
-ghost use Rattle.std.specs.Prelude.{◌≡◌, ℕ, ◌+◌, ◌-◌, ◌^◌, ◌<◌, ◌≤◌, true, false, IfOk, OnOk, if◌then◌else◌, ◌||◌, cond};
+ghost use Rattle.std.specs.Prelude.{◌≡◌, ℕ, ◌+◌, ◌^◌, ◌<◌, ◌≤◌, true, false, List, length, IfOk, OnOk, if◌then◌else◌, ◌||◌, cond, nat_lt, unwrap_or};
 ghost use Rattle.std.specs.HashMap.{spare};
+ghost use Rattle.std.specs.List.{sum_by};
 ghost use Rattle.voice_units.specs.Spots.{spots_of};
-ghost use Rattle.voice_units.specs.Blocks.{BlockPair, pairs_at, has_pair, same_pair};
-ghost use Rattle.rope_table.specs.Table.{uses_by, pair_of, unused, uses_counted};
-ghost use Rattle.rope_table.specs.Inside.{count_in, is_entered, pair_named, touched, missing, needed, entries_made};
+ghost use Rattle.voice_units.specs.Blocks.{BlockPair, pairs_at, has_pair, same_pair, distinct};
+ghost use Rattle.rope_table.specs.Table.{uses_by, pair_of, unused, uses_counted, live_counted, files_of, no_count, count_of};
+ghost use Rattle.rope_table.specs.Inside.{count_in, found_in, is_entered, entered_in, pair_named, touched, missing, needed, entries_made, is_live, weight_found};
+ghost use Rattle.rope_table.specs.declared.counts.BlockName.{BlockName};
+ghost use Rattle.rope_table.specs.declared.counts.Count.{Count};
 ghost use Rattle.rope_table.specs.declared.counts.Pass.TheVariants as pass_is;
 
+use crate::files::FileCounts;
 use rope_algebra::Pieces;
 use std::alloc::Global;
 use std::collections::HashMap;
@@ -21,10 +25,11 @@ pub(crate) struct BlockName {
     index: u32,
 }
 
-/// How many lists of pieces have a block, and whether a pass over such a list has met it.
+/// How many lists of pieces have a block, how many of these are live ropes', and whether a pass over such a list has met it.
 #[derive(Clone, Copy)]
 pub(crate) struct Count {
     uses: u32,
+    live: u32,
     marked: bool,
 }
 
@@ -36,105 +41,272 @@ pub(crate) enum Pass {
     Settle,
 }
 
+/// The counts of blocks, and what they come to in each file. Contracts see the entries, and for how many more there is room.
+#[derive(Drop)]
+pub(crate) struct Tally {
+    counts: HashMap<BlockName, Count>,
+    files: FileCounts,
+    live: u64,
+}
+
+impl Model for Tally {
+    ghost use Rattle.std.specs.Prelude.{min};
+    ghost use Rattle.std.specs.HashMap.{spare};
+    ghost use Rattle.rope_table.specs.Inside.{Tallied, IsTallied};
+
+    ghost Value = { Tallied };
+
+    ghost view = { λ t. record { counts = t.counts.entries; spare = min (spare t.counts) t.files.spare } };
+
+    ghost invariant = { λ t. IsTallied t.counts t.files t.live };
+}
+
 /// The uses of blocks. Contracts see the samples of a block, the uses, and for how many more blocks there is room.
 #[derive(Drop)]
 pub(crate) struct UseCounts {
     block: u32,
-    counts: HashMap<BlockName, Count>,
+    tally: Tally,
 }
 
 impl Model for UseCounts {
-    ghost use Rattle.std.specs.HashMap.{spare};
     ghost use Rattle.rope_table.specs.Inside.{Uses, AreCounts};
 
     ghost Value = { Uses };
 
-    ghost view = { λ c. record { block = c.block; counts = c.counts.entries; spare = spare c.counts } };
+    ghost view = { λ c. record { block = c.block; counts = c.tally.counts; spare = c.tally.spare } };
 
-    ghost invariant = { λ c. AreCounts c.block c.counts };
+    ghost invariant = { λ c. AreCounts c.block c.tally };
+}
+
+// A block has this count from now on. The count that it had.
+fn put(counts: &mut HashMap<BlockName, Count>, name: BlockName, count: Count) -> Option<Count>
+    requires { entered_in counts.old.entries (pair_named name) ≡ false → 0 < spare counts.old }
+    ensures counts { (pair : BlockPair) → count_of counts.new.entries pair ≡ cond (same_pair (pair_named name) pair) count (count_of counts.old.entries pair) }
+    ensures entered { (pair : BlockPair) → entered_in counts.new.entries pair ≡ (same_pair (pair_named name) pair || entered_in counts.old.entries pair) }
+    ensures spare { spare counts.old ≤ spare counts.new + (if entered_in counts.old.entries (pair_named name) then 0 else 1) }
+    ensures result { result ≡ found_in counts.old.entries (pair_named name) }
+    ensures sums { (weigh : BlockName × Count → ℕ) → sum_by weigh counts.new.entries + weight_found weigh name result ≡ sum_by weigh counts.old.entries + weigh (name, count) }
+{
+    let Some(place) = counts.get_mut(&name) else {
+        let _entered = counts.insert(name, count);
+        return None;
+    };
+    let old = *place;
+    *place = count;
+    Some(old)
+}
+
+// A block has no count any longer. The count that it had.
+fn take(counts: &mut HashMap<BlockName, Count>, name: &BlockName) -> Option<Count>
+    ensures counts { (pair : BlockPair) → count_of counts.new.entries pair ≡ cond (same_pair (pair_named name.now) pair) no_count (count_of counts.old.entries pair) }
+    ensures spare { spare counts.old ≤ spare counts.new }
+    ensures result { result ≡ found_in counts.old.entries (pair_named name.now) }
+    ensures sums { (weigh : BlockName × Count → ℕ) → sum_by weigh counts.new.entries + weight_found weigh name.now result ≡ sum_by weigh counts.old.entries }
+{
+    counts.remove(name)
+}
+
+// The same counts.
+fn copied(counts: &HashMap<BlockName, Count>) -> Result<HashMap<BlockName, Count>, NoMemory>
+    ensures { IfOk result (λ copy. copy.entries ≡ counts.now.entries) }
+{
+    Ok(counts.clone()?)
+}
+
+// Whether a live rope has the block of a count.
+fn has_live(count: &Option<Count>) -> bool
+    ensures { result ≡ is_live (unwrap_or count.now no_count) }
+{
+    match count {
+        Some(count) => count.live > 0,
+        None => false,
+    }
+}
+
+impl Tally {
+    // No counts. It takes no memory.
+    fn new(alloc: Global) -> Tally
+        ensures { (pair : BlockPair) → is_entered result pair ≡ false }
+    {
+        Tally {
+            counts: HashMap::new(alloc),
+            files: FileCounts::new(alloc),
+            live: 0,
+        }
+    }
+
+    // Equal counts.
+    fn copy(&self) -> Result<Tally, NoMemory>
+        ensures { IfOk result (λ copy. (pair : BlockPair) → count_in copy pair ≡ count_in self.now pair) }
+    {
+        let counts = copied(&self.counts)?;
+        let files = self.files.copy()?;
+        Ok(Tally {
+            counts,
+            files,
+            live: self.live,
+        })
+    }
+
+    // Makes room for n more blocks.
+    fn reserve(&mut self, n: u32) -> Result<(), NoMemory>
+        ensures counts { (pair : BlockPair) → count_in self.new pair ≡ count_in self.old pair }
+        ensures room { OnOk result (n ≤ self.new.spare) }
+        ensures kept { self.old.spare ≤ self.new.spare }
+    {
+        self.counts.reserve(n as usize)?;
+        self.files.reserve(n)
+    }
+
+    // The count of a block.
+    fn get(&self, name: &BlockName) -> Option<Count>
+        ensures { result ≡ found_in self.now.counts (pair_named name.now) }
+    {
+        self.counts.get(name).copied()
+    }
+
+    // A block has this count from now on.
+    fn put(&mut self, name: BlockName, count: Count)
+        requires { is_entered self.old (pair_named name) ≡ false → 0 < self.old.spare }
+        ensures counts { (pair : BlockPair) → count_in self.new pair ≡ cond (same_pair (pair_named name) pair) count (count_in self.old pair) }
+        ensures entered { (pair : BlockPair) → is_entered self.new pair ≡ (same_pair (pair_named name) pair || is_entered self.old pair) }
+        ensures spare { self.old.spare ≤ self.new.spare + (if is_entered self.old (pair_named name) then 0 else 1) }
+    {
+        let _most = self.counts.len();
+        let file = name.file;
+        let old = put(&mut self.counts, name, count);
+        let was = has_live(&old);
+        let is = count.live > 0;
+        self.files.change(file, old.is_none(), was, is);
+        self.live = self.live + u64::from(is) - u64::from(was);
+    }
+
+    // A block has no count any longer.
+    fn take(&mut self, name: &BlockName)
+        ensures counts { (pair : BlockPair) → count_in self.new pair ≡ cond (same_pair (pair_named name.now) pair) no_count (count_in self.old pair) }
+        ensures spare { self.old.spare ≤ self.new.spare }
+    {
+        let old = take(&mut self.counts, name);
+        if old.is_none() {
+            return;
+        }
+        let was = has_live(&old);
+        self.files.leave(name.file, was);
+        self.live -= u64::from(was);
+    }
+
+    // How many blocks live ropes have.
+    fn live(&self) -> u64
+        ensures { (pairs : List BlockPair) → ((pair : BlockPair) → has_pair pairs pair ≡ is_live (count_in self.now pair)) → result ≡ length (distinct pairs) }
+    {
+        let _unique = self.counts.len();
+        self.live
+    }
+
+    // How many files live ropes have.
+    fn live_files(&self) -> u64
+        ensures { (pairs : List BlockPair) → ((pair : BlockPair) → has_pair pairs pair ≡ is_live (count_in self.now pair)) → result ≡ length (files_of pairs) }
+    {
+        let _unique = self.counts.len();
+        self.files.live()
+    }
 }
 
 // One more use of a block, unless it is marked.
-fn raise(counts: &mut HashMap<BlockName, Count>, name: BlockName)
-    requires room { is_entered counts.old (pair_named name) ≡ false → 0 < spare counts.old }
-    requires fits { (count_in counts.old (pair_named name)).marked ≡ false → (count_in counts.old (pair_named name)).uses + 1 < 2 ^ 32 }
-    ensures counts { (pair : BlockPair) → count_in counts.new pair ≡ cond (same_pair (pair_named name) pair) (touched pass_is.Raise (count_in counts.old pair)) (count_in counts.old pair) }
-    ensures entered { (pair : BlockPair) → is_entered counts.new pair ≡ (same_pair (pair_named name) pair || is_entered counts.old pair) }
-    ensures spare { spare counts.old ≤ spare counts.new + (if is_entered counts.old (pair_named name) then 0 else 1) }
+fn raise(tally: &mut Tally, name: BlockName, live: bool)
+    requires room { is_entered tally.old (pair_named name) ≡ false → 0 < tally.old.spare }
+    requires fits { (count_in tally.old (pair_named name)).marked ≡ false → (count_in tally.old (pair_named name)).uses + 1 < 2 ^ 32 }
+    requires live_fits { (count_in tally.old (pair_named name)).marked ≡ false → (count_in tally.old (pair_named name)).live + 1 < 2 ^ 32 }
+    ensures counts { (pair : BlockPair) → count_in tally.new pair ≡ cond (same_pair (pair_named name) pair) (touched live pass_is.Raise (count_in tally.old pair)) (count_in tally.old pair) }
+    ensures entered { (pair : BlockPair) → is_entered tally.new pair ≡ (same_pair (pair_named name) pair || is_entered tally.old pair) }
+    ensures spare { tally.old.spare ≤ tally.new.spare + (if is_entered tally.old (pair_named name) then 0 else 1) }
 {
-    let Some(count) = counts.get_mut(&name) else {
+    let Some(count) = tally.get(&name) else {
         let first = Count {
             uses: 1,
+            live: u32::from(live),
             marked: true,
         };
-        let _entered = counts.insert(name, first);
+        tally.put(name, first);
         return;
     };
-    if !count.marked {
-        *count = Count {
-            uses: count.uses + 1,
-            marked: true,
-        };
+    if count.marked {
+        return;
     }
+    let more = Count {
+        uses: count.uses + 1,
+        live: count.live + u32::from(live),
+        marked: true,
+    };
+    tally.put(name, more);
 }
 
 // One use of a block less, unless it is marked.
-fn lower(counts: &mut HashMap<BlockName, Count>, name: BlockName)
-    requires { is_entered counts.old (pair_named name) ≡ true }
-    ensures counts { (pair : BlockPair) → count_in counts.new pair ≡ cond (same_pair (pair_named name) pair) (touched pass_is.Lower (count_in counts.old pair)) (count_in counts.old pair) }
-    ensures entered { (pair : BlockPair) → is_entered counts.new pair ≡ is_entered counts.old pair }
-    ensures spare { spare counts.new ≡ spare counts.old }
+fn lower(tally: &mut Tally, name: BlockName, live: bool)
+    requires { is_entered tally.old (pair_named name) ≡ true }
+    ensures counts { (pair : BlockPair) → count_in tally.new pair ≡ cond (same_pair (pair_named name) pair) (touched live pass_is.Lower (count_in tally.old pair)) (count_in tally.old pair) }
+    ensures spare { tally.old.spare ≤ tally.new.spare }
 {
-    let Some(count) = counts.get_mut(&name) else {
+    let Some(count) = tally.get(&name) else {
         return;
     };
-    if !count.marked {
-        *count = Count {
-            uses: count.uses.saturating_sub(1),
-            marked: true,
-        };
+    if count.marked {
+        return;
     }
+    let less = Count {
+        uses: count.uses.saturating_sub(1),
+        live: count.live.saturating_sub(u32::from(live)),
+        marked: true,
+    };
+    tally.put(name, less);
 }
 
 // A block is not marked any longer, and without a use it goes.
-fn settle(counts: &mut HashMap<BlockName, Count>, name: BlockName)
-    ensures counts { (pair : BlockPair) → count_in counts.new pair ≡ cond (same_pair (pair_named name) pair) (touched pass_is.Settle (count_in counts.old pair)) (count_in counts.old pair) }
-    ensures spare { spare counts.old ≤ spare counts.new }
+fn settle(tally: &mut Tally, name: BlockName)
+    ensures counts { (pair : BlockPair) → count_in tally.new pair ≡ cond (same_pair (pair_named name) pair) (touched false pass_is.Settle (count_in tally.old pair)) (count_in tally.old pair) }
+    ensures spare { tally.old.spare ≤ tally.new.spare }
 {
-    let Some(count) = counts.get_mut(&name) else {
+    let Some(count) = tally.get(&name) else {
         return;
     };
-    if count.uses == 0 {
-        counts.remove(&name);
+    if count.uses == 0 && count.live == 0 {
+        tally.take(&name);
         return;
     }
-    count.marked = false;
+    let settled = Count {
+        uses: count.uses,
+        live: count.live,
+        marked: false,
+    };
+    tally.put(name, settled);
 }
 
 // What a pass does to one block.
-fn touch(counts: &mut HashMap<BlockName, Count>, name: BlockName, pass: Pass)
-    requires room { pass ≡ pass_is.Raise → is_entered counts.old (pair_named name) ≡ false → 0 < spare counts.old }
-    requires fits { pass ≡ pass_is.Raise → (count_in counts.old (pair_named name)).marked ≡ false → (count_in counts.old (pair_named name)).uses + 1 < 2 ^ 32 }
-    requires there { pass ≡ pass_is.Lower → is_entered counts.old (pair_named name) ≡ true }
-    ensures counts { (pair : BlockPair) → count_in counts.new pair ≡ cond (same_pair (pair_named name) pair) (touched pass (count_in counts.old pair)) (count_in counts.old pair) }
-    ensures entered { pass ≡ pass_is.Raise → (pair : BlockPair) → is_entered counts.new pair ≡ (same_pair (pair_named name) pair || is_entered counts.old pair) }
-    ensures spare { spare counts.old ≤ spare counts.new + entries_made pass (is_entered counts.old (pair_named name)) }
+fn touch(tally: &mut Tally, name: BlockName, live: bool, pass: Pass)
+    requires room { pass ≡ pass_is.Raise → is_entered tally.old (pair_named name) ≡ false → 0 < tally.old.spare }
+    requires fits { pass ≡ pass_is.Raise → (count_in tally.old (pair_named name)).marked ≡ false → (count_in tally.old (pair_named name)).uses + 1 < 2 ^ 32 }
+    requires live_fits { pass ≡ pass_is.Raise → (count_in tally.old (pair_named name)).marked ≡ false → (count_in tally.old (pair_named name)).live + 1 < 2 ^ 32 }
+    requires there { pass ≡ pass_is.Lower → is_entered tally.old (pair_named name) ≡ true }
+    ensures counts { (pair : BlockPair) → count_in tally.new pair ≡ cond (same_pair (pair_named name) pair) (touched live pass (count_in tally.old pair)) (count_in tally.old pair) }
+    ensures entered { pass ≡ pass_is.Raise → (pair : BlockPair) → is_entered tally.new pair ≡ (same_pair (pair_named name) pair || is_entered tally.old pair) }
+    ensures spare { tally.old.spare ≤ tally.new.spare + entries_made pass (is_entered tally.old (pair_named name)) }
 {
     match pass {
-        Pass::Raise => raise(counts, name),
-        Pass::Lower => lower(counts, name),
-        Pass::Settle => settle(counts, name),
+        Pass::Raise => raise(tally, name, live),
+        Pass::Lower => lower(tally, name, live),
+        Pass::Settle => settle(tally, name),
     }
 }
 
-// What a pass does to each block of some pieces.
-fn touch_all(counts: &mut HashMap<BlockName, Count>, block: u32, pieces: &Pieces, pass: Pass)
+// What a pass does to each block of some pieces, which are a live rope's or not.
+fn touch_all(tally: &mut Tally, block: u32, pieces: &Pieces, live: bool, pass: Pass)
     requires some { 0 < block }
-    requires room { pass ≡ pass_is.Raise → missing counts.old (pairs_at block (spots_of pieces.now)) ≤ spare counts.old }
-    requires fits { pass ≡ pass_is.Raise → (pair : BlockPair) → has_pair (pairs_at block (spots_of pieces.now)) pair ≡ true → (count_in counts.old pair).uses + 1 < 2 ^ 32 }
-    requires there { pass ≡ pass_is.Lower → (pair : BlockPair) → has_pair (pairs_at block (spots_of pieces.now)) pair ≡ true → 1 ≤ (count_in counts.old pair).uses }
-    ensures counts { (pair : BlockPair) → count_in counts.new pair ≡ cond (has_pair (pairs_at block (spots_of pieces.now)) pair) (touched pass (count_in counts.old pair)) (count_in counts.old pair) }
-    ensures spare { spare counts.old ≤ spare counts.new + needed pass counts.old (pairs_at block (spots_of pieces.now)) }
+    requires room { pass ≡ pass_is.Raise → missing tally.old (pairs_at block (spots_of pieces.now)) ≤ tally.old.spare }
+    requires fits { pass ≡ pass_is.Raise → (pair : BlockPair) → has_pair (pairs_at block (spots_of pieces.now)) pair ≡ true → (count_in tally.old pair).uses + 1 < 2 ^ 32 }
+    requires live_fits { pass ≡ pass_is.Raise → (pair : BlockPair) → has_pair (pairs_at block (spots_of pieces.now)) pair ≡ true → (count_in tally.old pair).live + 1 < 2 ^ 32 }
+    requires there { pass ≡ pass_is.Lower → (pair : BlockPair) → has_pair (pairs_at block (spots_of pieces.now)) pair ≡ true → 1 ≤ (count_in tally.old pair).uses }
+    ensures counts { (pair : BlockPair) → count_in tally.new pair ≡ cond (has_pair (pairs_at block (spots_of pieces.now)) pair) (touched live pass (count_in tally.old pair)) (count_in tally.old pair) }
+    ensures spare { tally.old.spare ≤ tally.new.spare + needed pass tally.old (pairs_at block (spots_of pieces.now)) }
 {
     let _length = pieces.length();
     for k in 0..pieces.count() {
@@ -145,7 +317,7 @@ fn touch_all(counts: &mut HashMap<BlockName, Count>, block: u32, pieces: &Pieces
         let first = piece.from / block;
         let last = (piece.from + piece.len - 1) / block;
         for index in first..last + 1 {
-            touch(counts, BlockName { file, index }, pass);
+            touch(tally, BlockName { file, index }, live, pass);
         }
     }
 }
@@ -156,10 +328,11 @@ impl UseCounts {
         requires { 0 < block }
         ensures block { result.block ≡ block }
         ensures uses { (pair : BlockPair) → uses_counted result.counts pair ≡ 0 }
+        ensures live { (pair : BlockPair) → live_counted result.counts pair ≡ 0 }
     {
         UseCounts {
             block,
-            counts: HashMap::new(alloc),
+            tally: Tally::new(alloc),
         }
     }
 
@@ -167,11 +340,12 @@ impl UseCounts {
     pub(crate) fn copy(&self) -> Result<UseCounts, NoMemory>
         ensures block { IfOk result (λ copy. copy.block ≡ self.now.block) }
         ensures uses { IfOk result (λ copy. (pair : BlockPair) → uses_counted copy.counts pair ≡ uses_counted self.now.counts pair) }
+        ensures live { IfOk result (λ copy. (pair : BlockPair) → live_counted copy.counts pair ≡ live_counted self.now.counts pair) }
     {
-        let counts = self.counts.clone()?;
+        let tally = self.tally.copy()?;
         Ok(UseCounts {
             block: self.block,
-            counts,
+            tally,
         })
     }
 
@@ -186,43 +360,61 @@ impl UseCounts {
     pub(crate) fn uses(&self, file: RopeId, index: u32) -> u32
         ensures { result ≡ uses_counted self.now.counts (pair_of file index) }
     {
-        let Some(count) = self.counts.get(&BlockName { file, index }) else {
+        let Some(count) = self.tally.get(&BlockName { file, index }) else {
             return 0;
         };
         count.uses
+    }
+
+    /// How many blocks live ropes have.
+    pub(crate) fn live(&self) -> u64
+        ensures { (pairs : List BlockPair) → ((pair : BlockPair) → has_pair pairs pair ≡ nat_lt 0 (live_counted self.now.counts pair)) → result ≡ length (distinct pairs) }
+    {
+        self.tally.live()
+    }
+
+    /// How many files live ropes have.
+    pub(crate) fn live_files(&self) -> u64
+        ensures { (pairs : List BlockPair) → ((pair : BlockPair) → has_pair pairs pair ≡ nat_lt 0 (live_counted self.now.counts pair)) → result ≡ length (files_of pairs) }
+    {
+        self.tally.live_files()
     }
 
     /// Makes room for n more blocks.
     pub(crate) fn reserve(&mut self, n: u32) -> Result<(), NoMemory>
         ensures block { self.new.block ≡ self.old.block }
         ensures uses { (pair : BlockPair) → uses_counted self.new.counts pair ≡ uses_counted self.old.counts pair }
+        ensures live { (pair : BlockPair) → live_counted self.new.counts pair ≡ live_counted self.old.counts pair }
         ensures room { OnOk result (n ≤ self.new.spare) }
         ensures kept { self.old.spare ≤ self.new.spare }
     {
-        self.counts.reserve(n as usize)?;
-        Ok(())
+        self.tally.reserve(n)
     }
 
-    /// One more use of each block of these pieces. It takes no memory.
-    pub(crate) fn raise(&mut self, pieces: &Pieces)
+    /// One more use of each block of these pieces, which are a live rope's or not. It takes no memory.
+    pub(crate) fn raise(&mut self, pieces: &Pieces, live: bool)
         requires room { unused (uses_counted self.old.counts) (pairs_at self.old.block (spots_of pieces.now)) ≤ self.old.spare }
         requires fits { (pair : BlockPair) → has_pair (pairs_at self.old.block (spots_of pieces.now)) pair ≡ true → uses_counted self.old.counts pair + 1 < 2 ^ 32 }
+        requires live_fits { (pair : BlockPair) → live_counted self.old.counts pair ≤ uses_counted self.old.counts pair }
         ensures block { self.new.block ≡ self.old.block }
         ensures uses { (pair : BlockPair) → uses_counted self.new.counts pair ≡ uses_counted self.old.counts pair + uses_by self.old.block pieces.now pair }
+        ensures live { (pair : BlockPair) → live_counted self.new.counts pair ≡ live_counted self.old.counts pair + cond live (uses_by self.old.block pieces.now pair) 0 }
         ensures spare { self.old.spare ≤ self.new.spare + unused (uses_counted self.old.counts) (pairs_at self.old.block (spots_of pieces.now)) }
     {
-        touch_all(&mut self.counts, self.block, pieces, Pass::Raise);
-        touch_all(&mut self.counts, self.block, pieces, Pass::Settle);
+        touch_all(&mut self.tally, self.block, pieces, live, Pass::Raise);
+        touch_all(&mut self.tally, self.block, pieces, live, Pass::Settle);
     }
 
-    /// One use less of each block of these pieces. A block without a use takes no place. It takes no memory.
-    pub(crate) fn lower(&mut self, pieces: &Pieces)
-        requires { (pair : BlockPair) → has_pair (pairs_at self.old.block (spots_of pieces.now)) pair ≡ true → 1 ≤ uses_counted self.old.counts pair }
+    /// One use less of each block of these pieces, which are a live rope's or not. A block without a use takes no place. It takes no memory.
+    pub(crate) fn lower(&mut self, pieces: &Pieces, live: bool)
+        requires there { (pair : BlockPair) → has_pair (pairs_at self.old.block (spots_of pieces.now)) pair ≡ true → 1 ≤ uses_counted self.old.counts pair }
+        requires live { live ≡ true → (pair : BlockPair) → has_pair (pairs_at self.old.block (spots_of pieces.now)) pair ≡ true → 1 ≤ live_counted self.old.counts pair }
         ensures block { self.new.block ≡ self.old.block }
         ensures uses { (pair : BlockPair) → uses_counted self.new.counts pair + uses_by self.old.block pieces.now pair ≡ uses_counted self.old.counts pair }
+        ensures live { (pair : BlockPair) → live_counted self.new.counts pair + cond live (uses_by self.old.block pieces.now pair) 0 ≡ live_counted self.old.counts pair }
         ensures spare { self.old.spare ≤ self.new.spare }
     {
-        touch_all(&mut self.counts, self.block, pieces, Pass::Lower);
-        touch_all(&mut self.counts, self.block, pieces, Pass::Settle);
+        touch_all(&mut self.tally, self.block, pieces, live, Pass::Lower);
+        touch_all(&mut self.tally, self.block, pieces, live, Pass::Settle);
     }
 }

@@ -3,6 +3,7 @@
 
 mod counts;
 mod dues;
+mod files;
 mod ropes;
 mod table;
 #[cfg(test)]

@@ -1,7 +1,7 @@
 //! The live ropes in rising number.
 
 ghost use Rattle.std.specs.Prelude.{◌≡◌, ◌<◌, ◌≤◌, None, IfOk, OnOk, IfSome, IfNone, length, option_copied, map, []};
-ghost use Rattle.rope_table.specs.Table.{rope_of, number_above, with_rope, without_rope, idled, held_back, is_lower, IsInOrder};
+ghost use Rattle.rope_table.specs.Table.{rope_of, number_above, with_rope, without_rope, idled, held_back, is_lower, IsInOrder, piece_count};
 ghost use Rattle.rope_table.specs.Inside.{place_of, lies_below, is_within, IsAt};
 
 use rope_algebra::Pieces;
@@ -9,6 +9,9 @@ use std::alloc::Global;
 use std::collections::VecDeque;
 use std::marker::Model;
 use voice_units::{Moment, NoMemory, RopeId};
+
+/// How many ropes there are at most: no memory holds so many.
+const MOST: usize = 1 << 31;
 
 /// A live rope.
 #[derive(Drop)]
@@ -25,22 +28,23 @@ pub struct Rope {
     pub kept: bool,
 }
 
-/// The live ropes in rising number. Contracts see the list, and how many fit without memory.
+/// The live ropes in rising number, and how many pieces they have in all. Contracts see the list, and how many fit without memory.
 #[derive(Drop)]
 pub(crate) struct LiveRopes {
     ropes: VecDeque<Rope>,
+    pieces: u64,
 }
 
 impl Model for LiveRopes {
+    ghost use Rattle.std.specs.Prelude.{min, ◌^◌};
     ghost use Rattle.std.specs.VecDeque.{deque_capacity};
-    ghost use Rattle.rope_table.specs.Table.{is_lower, IsInOrder};
-    ghost use Rattle.rope_table.specs.Inside.{Ropes};
+    ghost use Rattle.rope_table.specs.Inside.{Ropes, AreLive};
 
     ghost Value = { Ropes };
 
-    ghost view = { λ r. record { ropes = r.ropes.items; room = deque_capacity r.ropes } };
+    ghost view = { λ r. record { ropes = r.ropes.items; room = min (deque_capacity r.ropes) (2 ^ 31) } };
 
-    ghost invariant = { λ r. IsInOrder is_lower r.ropes.items };
+    ghost invariant = { λ r. AreLive r.ropes.items r.pieces };
 }
 
 /// How many ropes have a number below this one.
@@ -87,6 +91,7 @@ impl LiveRopes {
     {
         LiveRopes {
             ropes: VecDeque::new(alloc),
+            pieces: 0,
         }
     }
 
@@ -95,15 +100,21 @@ impl LiveRopes {
         ensures { IfOk result (λ copy. copy.ropes ≡ self.now.ropes) }
     {
         let ropes = copied(&self.ropes)?;
-        Ok(LiveRopes { ropes })
+        Ok(LiveRopes {
+            ropes,
+            pieces: self.pieces,
+        })
     }
 
-    /// Makes room for one more rope.
+    /// Makes room for one more rope; 2^31 of them are taken for lack of memory.
     pub(crate) fn reserve(&mut self) -> Result<(), NoMemory>
         ensures ropes { self.new.ropes ≡ self.old.ropes }
         ensures room { OnOk result (length self.new.ropes < self.new.room) }
         ensures kept { self.old.room ≤ self.new.room }
     {
+        if self.ropes.len() >= MOST {
+            return Err(NoMemory);
+        }
         self.ropes.reserve(1)?;
         Ok(())
     }
@@ -120,7 +131,14 @@ impl LiveRopes {
     pub(crate) fn room(&self) -> usize
         ensures { result ≡ self.now.room }
     {
-        self.ropes.capacity()
+        self.ropes.capacity().min(MOST)
+    }
+
+    /// How many pieces the ropes have in all.
+    pub(crate) fn pieces(&self) -> u64
+        ensures { result ≡ piece_count self.now.ropes }
+    {
+        self.pieces
     }
 
     /// The rope of a number.
@@ -151,6 +169,7 @@ impl LiveRopes {
         ensures room { self.old.room ≤ self.new.room }
     {
         let place = place(&self.ropes, rope.id.number());
+        self.pieces += u64::from(rope.pieces.count());
         let _entered = self.ropes.insert(place, rope);
     }
 
@@ -178,7 +197,11 @@ impl LiveRopes {
         let Some(place) = self.place_of_live(id) else {
             return None;
         };
-        self.ropes.remove(place)
+        let Some(rope) = self.ropes.remove(place) else {
+            return None;
+        };
+        self.pieces -= u64::from(rope.pieces.count());
+        Some(rope)
     }
 
     /// Since when the rope of a number is idle, the class of the last row that it lost, and how long it waits.

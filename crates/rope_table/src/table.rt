@@ -4,7 +4,7 @@ ghost use Rattle.std.specs.Prelude.{◌≡◌, ℕ, ◌+◌, ◌-◌, ◌%◌, �
 ghost use Rattle.voice_units.specs.declared.Piece.{Piece};
 ghost use Rattle.voice_units.specs.Spots.{spots_of};
 ghost use Rattle.voice_units.specs.Blocks.{BlockPair, pairs_at, has_pair};
-ghost use Rattle.rope_table.specs.Table.{rope_of, number_above, with_rope, without_rope, idled, held_back, made_rope, pieces_at, idle_at, last_at, wait_at, kept_at, uses_by, uses_in, pieces_in, pair_of, uses_at, index_of, due_at, as_pair, Counts, new_pairs, IsTable};
+ghost use Rattle.rope_table.specs.Table.{rope_of, number_above, with_rope, without_rope, idled, held_back, made_rope, pieces_at, idle_at, last_at, wait_at, kept_at, uses_by, uses_in, pieces_in, pair_of, uses_at, index_of, due_at, as_pair, piece_count, block_count, file_count, Counts, new_pairs, IsTable};
 
 use crate::counts::UseCounts;
 use crate::dues::{Due, DueOrder};
@@ -75,6 +75,27 @@ impl RopeTable {
         ensures { result ≡ length self.now.ropes }
     {
         self.ropes.count()
+    }
+
+    /// How many blocks of voice files the live ropes have. It is kept and not counted again.
+    pub fn live_blocks(&self) -> u64
+        ensures { result ≡ block_count self.now.block self.now.ropes }
+    {
+        self.counts.live()
+    }
+
+    /// How many voice files the live ropes have samples of. It is kept and not counted again.
+    pub fn live_files(&self) -> u64
+        ensures { result ≡ file_count self.now.block self.now.ropes }
+    {
+        self.counts.live_files()
+    }
+
+    /// How many pieces the live ropes have in all. It is kept and not counted again.
+    pub fn live_pieces(&self) -> u64
+        ensures { result ≡ piece_count self.now.ropes }
+    {
+        self.ropes.pieces()
     }
 
     /// The pieces of a rope; `None` exactly where it is not live.
@@ -164,7 +185,7 @@ impl RopeTable {
         ensures spare_ropes { self.old.spare_ropes ≤ self.new.spare_ropes + 1 }
         ensures spare_pairs { self.old.spare_pairs ≤ self.new.spare_pairs + new_pairs self.old pieces }
     {
-        self.counts.raise(&pieces);
+        self.counts.raise(&pieces, true);
         self.dues.enter(due_of(id, idle, wait));
         self.ropes.enter(Rope {
             id,
@@ -197,7 +218,7 @@ impl RopeTable {
             wait,
             kept,
         } = rope;
-        self.counts.lower(&pieces);
+        self.counts.lower(&pieces, true);
         if kept {
             return Some(pieces);
         }
@@ -270,7 +291,7 @@ impl RopeTable {
         ensures spare_ropes { self.new.spare_ropes ≡ self.old.spare_ropes }
         ensures spare_pairs { self.old.spare_pairs ≤ self.new.spare_pairs }
     {
-        self.counts.raise(passage);
+        self.counts.raise(passage, false);
     }
 
     /// Holds a passage no longer. The uses of each of its blocks are above what the live ropes give, as they are where it is held. It takes no memory.
@@ -283,7 +304,7 @@ impl RopeTable {
         ensures spare_ropes { self.new.spare_ropes ≡ self.old.spare_ropes }
         ensures spare_pairs { self.old.spare_pairs ≤ self.new.spare_pairs }
     {
-        self.counts.lower(passage);
+        self.counts.lower(passage, false);
     }
 
     /// The k-th rope in the order in which they are due, from 0, and its moment: ropes that no row keeps, by the moment and the number; `None` exactly where there are not so many. It is one step.

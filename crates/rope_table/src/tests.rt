@@ -103,6 +103,11 @@ fn due_are(table: &RopeTable, wanted: &[(u64, u64)]) -> bool
     are_due::<Brand>(table, Blank::new(1), wanted)
 }
 
+// Whether the live ropes have so many blocks, files and pieces.
+fn live_are(table: &RopeTable, blocks: u64, files: u64, pieces: u64) -> bool {
+    table.live_blocks() == blocks && table.live_files() == files && table.live_pieces() == pieces
+}
+
 #[test]
 fn ropes_of_one_moment_are_due_by_number(rt: HostRuntime) -> Result<(), Fail> {
     let mut table = of_three(rt.alloc())?;
@@ -138,6 +143,7 @@ fn numbers_are_gone_through_in_order(rt: HostRuntime) -> Result<(), Fail> {
         );
     }
     assert_eq!(rt; table.count(), 3);
+    assert!(rt; live_are(&table, 3, 3, 3));
     assert_eq!(rt; table.block(), BLOCK);
     Ok(())
 }
@@ -157,8 +163,19 @@ fn a_block_in_three_pieces_is_used_once(rt: HostRuntime) -> Result<(), Fail> {
     put(&mut table, 0, RopeId(9), pieces, Moment(0), 60)?;
     assert!(rt; table.uses(RopeId(7), 0) == 1 && table.uses(RopeId(7), 1) == 1);
     assert!(rt; table.uses(RopeId(7), 2) == 0 && table.uses(RopeId(9), 0) == 0);
+    assert!(rt; live_are(&table, 2, 1, 3));
+    put(
+        &mut table,
+        1,
+        RopeId(10),
+        one_block(alloc, 7)?,
+        Moment(0),
+        60,
+    )?;
+    assert!(rt; live_are(&table, 2, 1, 4));
     let _pieces = table.remove(RopeId(9));
-    assert!(rt; table.uses(RopeId(7), 0) == 0 && table.uses(RopeId(7), 1) == 0);
+    assert!(rt; table.uses(RopeId(7), 0) == 1 && table.uses(RopeId(7), 1) == 0);
+    assert!(rt; live_are(&table, 1, 1, 1));
     Ok(())
 }
 
@@ -201,6 +218,7 @@ fn a_held_passage_outlives_its_rope(rt: HostRuntime) -> Result<(), Fail> {
     let copy = table.copy()?;
     let passage = held_alone(&mut table, RopeId(1))?;
     assert!(rt; table.count() == 0 && table.uses(RopeId(1), 0) == 1);
+    assert!(rt; live_are(&table, 0, 0, 0) && live_are(&copy, 1, 1, 1));
     release_last(&mut table, &passage);
     assert!(rt; table.uses(RopeId(1), 0) == 0);
     assert!(rt; copy.count() == 1 && copy.uses(RopeId(1), 0) == 1);

@@ -7,6 +7,7 @@ mod interests;
 mod loudness;
 mod parsing;
 mod report;
+mod ropes;
 mod turning;
 
 use std::alloc::AllocError;
@@ -24,6 +25,7 @@ voice_bench MEASUREMENT: prints figures of this machine.
   parse    a script of 65,535 lines, against cutting its bytes into words
   loud     loudness and talk of 1 MiB of samples, against a plain sum
   rows     making and forgetting an interest, by the number of interests
+  ropes    putting in, taking out, cutting and sweeping ropes, by the number of ropes
   appends  appends a second in memory and to a file of this folder, against bare calls
   all      each of these
 ";
@@ -47,6 +49,9 @@ fn measure<R: Env + Print + Clock + AllocGlobal + Files<File = File> + Threads +
     }
     if all || word == "rows" {
         interests::measure(rt)?;
+    }
+    if all || word == "ropes" {
+        ropes::measure(rt)?;
     }
     if all || word == "appends" {
         appends::measure(rt)?;

@@ -1,4 +1,4 @@
-use Rattle.std.proofs.Common.{◌≡◌, ◌<◌, length, ◌+◌, ◌-◌, ◌/◌, ◌||◌, take, Some, true, ap, sym, ◌∙◌, arith}
+use Rattle.std.proofs.Common.{◌≡◌, ◌^◌, ◌<◌, length, ◌+◌, ◌-◌, ◌/◌, ◌||◌, take, Some, true, ap, sym, ◌∙◌, arith}
 use Rattle.std.proofs.Math.Nat.{div-le_self}
 use Rattle.std.specs.Prelude.{slice_get}
 use Rattle.voice_units.specs.Spots.{spots_of}
@@ -29,7 +29,7 @@ overflow_add-index-end c =
 
 pub loop-index-init : goal.loop-index-init
 loop-index-init c =
-    same_test c.args.pass c.args.counts.now c.loop-k.counts _ _ _ (λ q. sym (no_run c.in-Some.piece.file (c.in-Some.piece.from / c.args.block) q _)) c.loop-k.invariant
+    same_test c.args.live c.args.pass c.args.tally.now c.loop-k.tally _ _ _ (λ q. sym (no_run c.in-Some.piece.file (c.in-Some.piece.from / c.args.block) q _)) c.loop-k.invariant
 
 met : (c : goal.After-touch-arg-1) → has_pair (pairs_at c.args.block (spots_of c.args.pieces.now)) (pair_of c.in-Some.piece.file c.loop-index.index) ≡ true
 met c =
@@ -37,13 +37,16 @@ met c =
     meets c.args.block c.loop-k.k c.loop-index.index c.args.pieces.now c.in-Some.piece c.requires.some c.length-length.ensures.rope.normal at c.loop-index.auto.index c.loop-index-test.true
 
 pub touch-requires-clause-room : goal.touch-requires-clause-room
-touch-requires-clause-room c = room_for c.args.pass c.args.counts.now c.loop-index.counts _ _ (pair_of c.in-Some.piece.file c.loop-index.index) c.loop-index.invariant c.requires.room (met c)
+touch-requires-clause-room c = room_for c.args.live c.args.pass c.args.tally.now c.loop-index.tally _ _ (pair_of c.in-Some.piece.file c.loop-index.index) c.loop-index.invariant c.requires.room (met c)
 
 pub touch-requires-clause-fits : goal.touch-requires-clause-fits
-touch-requires-clause-fits c = fits_in c.args.pass c.args.counts.now c.loop-index.counts _ _ (pair_of c.in-Some.piece.file c.loop-index.index) c.loop-index.invariant c.requires.fits (met c)
+touch-requires-clause-fits c = fits_in c.args.live (λ count. count.uses + 1 < 2 ^ 32) c.args.pass c.args.tally.now c.loop-index.tally _ _ (pair_of c.in-Some.piece.file c.loop-index.index) c.loop-index.invariant c.requires.fits (met c)
+
+pub touch-requires-clause-live_fits : goal.touch-requires-clause-live_fits
+touch-requires-clause-live_fits c = fits_in c.args.live (λ count. count.live + 1 < 2 ^ 32) c.args.pass c.args.tally.now c.loop-index.tally _ _ (pair_of c.in-Some.piece.file c.loop-index.index) c.loop-index.invariant c.requires.live_fits (met c)
 
 pub touch-requires-clause-there : goal.touch-requires-clause-there
-touch-requires-clause-there c = there c.args.pass c.args.counts.now c.loop-index.counts _ _ (pair_of c.in-Some.piece.file c.loop-index.index) c.loop-index.invariant c.requires.there (met c)
+touch-requires-clause-there c = there c.args.live c.args.pass c.args.tally.now c.loop-index.tally _ _ (pair_of c.in-Some.piece.file c.loop-index.index) c.loop-index.invariant c.requires.there (met c)
 
 met_now : (c : goal.After-touch) → has_pair (pairs_at c.args.block (spots_of c.args.pieces.now)) (pair_of c.in-Some.piece.file c.loop-index.index) ≡ true
 met_now c =
@@ -54,7 +57,7 @@ pub loop-index-preserved : goal.loop-index-preserved
 loop-index-preserved c =
     let first = c.in-Some.piece.from / c.args.block in
     let front = has_pair (pairs_at c.args.block (spots_of (take c.loop-k.k c.args.pieces.now))) in
-    one_met c.args.pass c.args.counts.now c.loop-index.counts c.touch.new.counts (pairs_at c.args.block (spots_of c.args.pieces.now))
+    one_met c.args.live c.args.pass c.args.tally.now c.loop-index.tally c.touch.new.tally (pairs_at c.args.block (spots_of c.args.pieces.now))
     (λ q. front q || in_run c.in-Some.piece.file first c.loop-index.index q) (λ q. front q || in_run c.in-Some.piece.file first (c.loop-index.index + 1) q)
     (pair_of c.in-Some.piece.file c.loop-index.index) c.loop-index.invariant (met_now c) c.touch.ensures.counts c.touch.ensures.entered c.touch.ensures.spare
     (λ q. run_more c.in-Some.piece.file first c.loop-index.index q (front q) c.loop-index.auto.index)
@@ -69,7 +72,7 @@ loop-k-preserved c =
     let grows = div_grows piece.from (piece.from + piece.len - 1) c.args.block c.requires.some (omega (arith, long)) in
     let end : c.loop-index.index ≡ (piece.from + piece.len - 1) / c.args.block + 1 = omega (arith, grows, c.loop-index-test.false, c.loop-index.auto) in
     let within : c.loop-k.k < length ps = omega (arith, c.loop-k-test.true, c.count-k-end.ensures) in
-    same_test c.args.pass c.args.counts.now c.loop-index.counts _ _ _
+    same_test c.args.live c.args.pass c.args.tally.now c.loop-index.tally _ _ _
     (λ q. ap (λ n. has_pair (pairs_at c.args.block (spots_of (take c.loop-k.k ps))) q || in_run piece.file first n q) end
     ∙ ap (λ b. has_pair (pairs_at c.args.block (spots_of (take c.loop-k.k ps))) q || b) (run_of c.args.block piece q c.requires.some long)
     ∙ front_more c.args.block c.loop-k.k ps piece q within (at_get ps c.loop-k.k piece at)) c.loop-index.invariant

@@ -1,5 +1,4 @@
 use Rattle.std.proofs.Common.{◌≤◌, ◌+◌, sym, subst, arith}
-use Rattle.std.specs.HashMap.{spare}
 use Rattle.voice_units.specs.Spots.{spots_of}
 use Rattle.voice_units.specs.Blocks.{pairs_at}
 use Rattle.rope_table.specs.Table.{unused, uses_counted}
@@ -9,12 +8,12 @@ use Rattle.rope_table.proofs.counts.UseCounts.raise.Goals as goal
 
 pub touch_all-requires-clause-room : goal.touch_all-requires-clause-room
 touch_all-requires-clause-room c = λ is.
-    let most = missing_unused c.self.inside.counts (pairs_at c.self.inside.block (spots_of c.args.pieces.now)) in
+    let most = missing_unused c.self.inside.tally (pairs_at c.self.inside.block (spots_of c.args.pieces.now)) in
     let room = subst (λ (v : Uses). unused (uses_counted v.counts) (pairs_at v.block (spots_of c.args.pieces.now)) ≤ v.spare) (sym c.self.view_is) c.requires.room in
     omega (arith, most, room)
 
 pub returns-clause-spare : goal.returns-clause-spare
 returns-clause-spare c =
-    let most = missing_unused c.self.inside.counts (pairs_at c.self.inside.block (spots_of c.args.pieces.now)) in
-    subst (λ (v : Uses). v.spare ≤ spare c.touch_all-2.new.counts + unused (uses_counted v.counts) (pairs_at v.block (spots_of c.args.pieces.now))) c.self.view_is
+    let most = missing_unused c.self.inside.tally (pairs_at c.self.inside.block (spots_of c.args.pieces.now)) in
+    subst (λ (v : Uses). v.spare ≤ c.touch_all-2.new.tally.spare + unused (uses_counted v.counts) (pairs_at v.block (spots_of c.args.pieces.now))) c.self.view_is
     (omega (arith, most, c.touch_all.ensures.spare, c.touch_all-2.ensures.spare))

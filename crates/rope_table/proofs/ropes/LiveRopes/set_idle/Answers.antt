@@ -1,10 +1,10 @@
-use Rattle.std.proofs.Common.{◌≡◌, map, ap, sym, ◌∙◌, subst, refl, List, ◌==◌}
-use Rattle.std.proofs.lemmas.Bool.{cond_both}
+use Rattle.std.proofs.Common.{map, ap, sym, ◌∙◌, subst, refl}
 use Rattle.rope_table.specs.declared.ropes.Rope.{Rope}
-use Rattle.rope_table.specs.Table.{idled, is_lower, IsInOrder}
+use Rattle.rope_table.specs.Table.{idled}
 use Rattle.rope_table.specs.Inside.{Ropes, IsAt}
 use Rattle.rope_table.proofs.ById.{map_none}
-use Rattle.rope_table.proofs.Edited.{set_is_map, in_order-map}
+use Rattle.rope_table.proofs.Edited.{set_is_map}
+use Rattle.rope_table.proofs.Totals.{live_changed}
 use Rattle.rope_table.proofs.ropes.LiveRopes.set_idle.Goals as goal
 
 pub returns-in_default-clause-ropes : goal.returns-in_default-clause-ropes
@@ -14,12 +14,12 @@ pub invariant_of-self-2 : goal.invariant_of-self-2
 invariant_of-self-2 c =
     let ropes = c.self.inside.ropes.items in
     let at : IsAt ropes c.args.id c.in-Some.place = subst (λ (v : Ropes). IsAt v.ropes c.args.id c.in-Some.place) (sym c.self.view_is) c.in-Some.ensures.live in
-    subst (λ (l : List Rope). IsInOrder is_lower l) (sym (set_is_map c.args.id c.in-Some.place (λ (rope : Rope). record rope { idle = c.args.idle; last = c.args.last; wait = c.args.wait }) ropes c.in-Some-get_mut.rope.now c.self.invariant at c.in-Some-get_mut.ensures.value))
-    (in_order-map (idled c.args.id c.args.idle c.args.last c.args.wait) (λ r. cond_both (r.id == c.args.id) ((λ (rope : Rope). record rope { idle = c.args.idle; last = c.args.last; wait = c.args.wait }) r) r (λ q. q.id ≡ r.id) (λ e. refl) (λ e. refl)) ropes c.self.invariant)
+    live_changed c.args.id (λ (rope : Rope). record rope { idle = c.args.idle; last = c.args.last; wait = c.args.wait }) (λ r. refl) (λ r. refl) ropes _ c.self.inside.pieces c.self.invariant
+    (set_is_map c.args.id c.in-Some.place (λ (rope : Rope). record rope { idle = c.args.idle; last = c.args.last; wait = c.args.wait }) ropes c.in-Some-get_mut.rope.now c.self.invariant.order at c.in-Some-get_mut.ensures.value)
 
 pub returns-clause-ropes : goal.returns-clause-ropes
 returns-clause-ropes c =
     let ropes = c.self.inside.ropes.items in
     let at : IsAt ropes c.args.id c.in-Some.place = subst (λ (v : Ropes). IsAt v.ropes c.args.id c.in-Some.place) (sym c.self.view_is) c.in-Some.ensures.live in
-    set_is_map c.args.id c.in-Some.place (λ (rope : Rope). record rope { idle = c.args.idle; last = c.args.last; wait = c.args.wait }) ropes c.in-Some-get_mut.rope.now c.self.invariant at c.in-Some-get_mut.ensures.value
+    set_is_map c.args.id c.in-Some.place (λ (rope : Rope). record rope { idle = c.args.idle; last = c.args.last; wait = c.args.wait }) ropes c.in-Some-get_mut.rope.now c.self.invariant.order at c.in-Some-get_mut.ensures.value
     ∙ ap (λ (v : Ropes). map (idled c.args.id c.args.idle c.args.last c.args.wait) v.ropes) c.self.view_is

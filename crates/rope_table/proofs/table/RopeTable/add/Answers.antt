@@ -4,8 +4,11 @@ use Rattle.rope_table.specs.Table.{Table, Counts, rope_of, made_rope, with_due, 
 use Rattle.rope_table.specs.declared.dues.Due.{Due}
 use Rattle.rope_table.proofs.InOrder.{Apart}
 use Rattle.rope_table.proofs.Edited.{fewer_due, length-with}
-use Rattle.rope_table.proofs.Wholes.{apart_now, whole_added, counts_added}
+use Rattle.rope_table.proofs.Wholes.{apart_now, live_within, whole_added, counts_added}
 use Rattle.rope_table.proofs.table.RopeTable.add.Goals as goal
+
+pub raise-requires-clause-live_fits : goal.raise-requires-clause-live_fits
+raise-requires-clause-live_fits c = λ q. live_within c.self.inside.ropes c.self.inside.dues c.self.inside.counts q c.self.invariant
 
 pub enter-requires-clause-room : goal.enter-requires-clause-room
 enter-requires-clause-room c =
@@ -26,7 +29,7 @@ invariant_of-self c =
     let some = subst (λ (t : Table). 1 ≤ t.spare_ropes) (sym c.self.view_is) c.requires.room in
     whole_added c.self.inside.ropes c.enter-2.new.self c.self.inside.dues c.enter.new.self c.self.inside.counts c.raise.new.self (made_rope c.args.id c.args.pieces c.args.idle c.args.last c.args.wait)
     c.self.invariant none c.requires.class refl c.enter-2.ensures.ropes (c.enter.ensures.dues ∙ ap (λ due. with_due due c.self.inside.dues.dues) c.due_of.ensures)
-    (omega (arith, some, c.enter.ensures.room)) c.raise.ensures.block c.raise.ensures.uses
+    (omega (arith, some, c.enter.ensures.room)) c.raise.ensures.block c.raise.ensures.uses c.raise.ensures.live
 
 pub returns-clause-counts : goal.returns-clause-counts
 returns-clause-counts c = λ held counted.

@@ -2,8 +2,11 @@ use Rattle.std.proofs.Common.{◌≡◌, ◌≤◌, sym, subst, arith, true}
 use Rattle.voice_units.specs.Spots.{spots_of}
 use Rattle.voice_units.specs.Blocks.{BlockPair, pairs_at, has_pair}
 use Rattle.rope_table.specs.Table.{Table, uses_counted, uses_at}
-use Rattle.rope_table.proofs.Wholes.{none_unused}
+use Rattle.rope_table.proofs.Wholes.{none_unused, live_within}
 use Rattle.rope_table.proofs.table.RopeTable.hold.Goals as goal
+
+pub raise-requires-clause-live_fits : goal.raise-requires-clause-live_fits
+raise-requires-clause-live_fits c = λ q. live_within c.self.inside.ropes c.self.inside.dues c.self.inside.counts q c.self.invariant
 
 pub raise-requires-clause-room : goal.raise-requires-clause-room
 raise-requires-clause-room c =

@@ -1,0 +1,245 @@
+//! Ropes and what is due, as the number of ropes grows.
+
+ghost use Rattle.std.specs.Prelude.{◌≡◌, [], false};
+ghost use Rattle.rope_table.specs.Table.{Every};
+
+use collector::first;
+use interest_table::InterestTable;
+use rope_algebra::Pieces;
+use rope_table::RopeTable;
+use std::alloc::{AllocError, Global};
+use std::io;
+use std::marker::Brand;
+use std::rt::Clock;
+use std::sync::ledger::{Blank, Ledger};
+use std::time::{Duration, Instant};
+use voice_units::{Moment, NoMemory, Piece, RopeId, Steps};
+
+const BLOCK: u32 = 4096;
+
+// How many ropes come, go, are cut or are due in a round.
+const SOME: u16 = 10;
+
+const ROUNDS: u32 = 20;
+
+// How long a rope waits.
+const WAIT: u32 = 60;
+
+// How long each call took in all rounds.
+#[derive(Clone, Copy)]
+struct Times {
+    add: Duration,
+    remove: Duration,
+    slice: Duration,
+    first: Duration,
+}
+
+// Puts in a rope of the first sample of its own file, idle since the moment of its number. A file of which a sample is in use already is taken for lack of memory.
+fn put(alloc: Global, table: &mut RopeTable, number: u32) -> Result<(), NoMemory>
+    requires { Every (λ rope. rope.kept ≡ false) table.old.ropes }
+    ensures { Every (λ rope. rope.kept ≡ false) table.new.ropes }
+{
+    let id = RopeId(u64::from(number));
+    let pieces = Pieces::one(
+        alloc,
+        Piece {
+            file: id,
+            from: 0,
+            len: 1,
+        },
+    )?;
+    table.reserve(pieces.length())?;
+    if table.get(id).is_some() {
+        return Err(NoMemory);
+    }
+    if table.uses(id, 0) > 0 {
+        return Err(NoMemory);
+    }
+    table.add(id, pieces, Moment(u64::from(number)), 0, WAIT);
+    Ok(())
+}
+
+// Puts in so many ropes, whose numbers stand equally far apart.
+fn put_some(
+    alloc: Global,
+    table: &mut RopeTable,
+    from: u32,
+    apart: u32,
+    count: u32,
+) -> Result<(), NoMemory>
+    requires { Every (λ rope. rope.kept ≡ false) table.old.ropes }
+    ensures { Every (λ rope. rope.kept ≡ false) table.new.ropes }
+{
+    for k in 0..count {
+        put(alloc, table, from.wrapping_add(k.wrapping_mul(apart)))?;
+    }
+    Ok(())
+}
+
+// Takes out some ropes, whose numbers stand equally far apart.
+fn remove_some(table: &mut RopeTable, from: u32, apart: u32)
+    requires { Every (λ rope. rope.kept ≡ false) table.old.ropes }
+    ensures { Every (λ rope. rope.kept ≡ false) table.new.ropes }
+{
+    for k in 0..SOME {
+        let number = from.wrapping_add(u32::from(k).wrapping_mul(apart));
+        let _pieces = table.remove(RopeId(u64::from(number)));
+    }
+}
+
+// How many samples the cuts of some ropes have in all, each of the first sample.
+fn slice_some(table: &RopeTable, from: u32, apart: u32) -> Result<u32, NoMemory> {
+    let mut samples = 0u32;
+    for k in 0..SOME {
+        let number = from.wrapping_add(u32::from(k).wrapping_mul(apart));
+        let Some(pieces) = table.get(RopeId(u64::from(number))) else {
+            return Err(NoMemory);
+        };
+        if pieces.length() == 0 {
+            return Err(NoMemory);
+        }
+        let cut = pieces.slice(0, 1)?;
+        samples = samples.wrapping_add(cut.length());
+    }
+    Ok(samples)
+}
+
+// How many ropes a sweep removes first at this moment, where there is no interest.
+fn due_at<L: Ledger>(
+    alloc: Global,
+    table: &RopeTable,
+    interests: &InterestTable,
+    now: Moment,
+    blank: Blank,
+) -> Result<usize, NoMemory>
+    requires free { Every (λ rope. rope.kept ≡ false) table.now.ropes }
+    requires none { interests.now.rows ≡ [] }
+    requires name { blank.name ≡ L.name }
+    requires parts { blank.parts ≡ L.parts }
+    requires one { blank.parts ≡ 1 }
+{
+    let mut steps = Steps::<L>::new(blank);
+    let gone = first(alloc, table, interests, now, WAIT, SOME, &mut steps)?;
+    Ok(gone.items().len())
+}
+
+fn due_now(
+    alloc: Global,
+    table: &RopeTable,
+    interests: &InterestTable,
+    now: Moment,
+) -> Result<usize, NoMemory>
+    requires free { Every (λ rope. rope.kept ≡ false) table.now.ropes }
+    requires none { interests.now.rows ≡ [] }
+{
+    due_at::<Brand>(alloc, table, interests, now, Blank::new(1))
+}
+
+// How long a round of each call takes at so many ropes. The table has the same ropes after it.
+fn round<R: Clock>(
+    rt: &R,
+    alloc: Global,
+    table: &mut RopeTable,
+    interests: &InterestTable,
+    count: u32,
+) -> io::Result<Times>
+    requires free { Every (λ rope. rope.kept ≡ false) table.old.ropes }
+    requires none { interests.now.rows ≡ [] }
+    ensures { Every (λ rope. rope.kept ≡ false) table.new.ropes }
+{
+    let apart = count / u32::from(SOME);
+    let behind = count.wrapping_add(1);
+    let start = Instant::now(rt)?;
+    let added = put_some(alloc, table, behind, 1, u32::from(SOME));
+    let add = start.elapsed(rt)?;
+    let start = Instant::now(rt)?;
+    remove_some(table, 1, apart);
+    let remove = start.elapsed(rt)?;
+    remove_some(table, behind, 1);
+    let again = put_some(alloc, table, 1, apart, u32::from(SOME));
+    let start = Instant::now(rt)?;
+    let cut = slice_some(table, 1, apart);
+    let slice = start.elapsed(rt)?;
+    let now = Moment(u64::from(WAIT) + u64::from(SOME));
+    let start = Instant::now(rt)?;
+    let due = due_now(alloc, table, interests, now);
+    let first = start.elapsed(rt)?;
+    if added.is_err()
+        || again.is_err()
+        || cut != Ok(u32::from(SOME))
+        || due != Ok(usize::from(SOME))
+    {
+        return Err(io::Error::from(AllocError));
+    }
+    Ok(Times {
+        add,
+        remove,
+        slice,
+        first,
+    })
+}
+
+impl Times {
+    fn plus(self, other: Times) -> Times {
+        Times {
+            add: self.add.saturating_add(other.add),
+            remove: self.remove.saturating_add(other.remove),
+            slice: self.slice.saturating_add(other.slice),
+            first: self.first.saturating_add(other.first),
+        }
+    }
+}
+
+// The nanoseconds of a call, of which each round makes so many.
+fn nanos(took: Duration, in_a_round: u16) -> u128 {
+    took.as_nanos() / (u128::from(ROUNDS) * u128::from(in_a_round)).max(1)
+}
+
+// How long all rounds of each call take. One round before them is for warming up.
+fn rounds<R: Clock>(
+    rt: &R,
+    alloc: Global,
+    table: &mut RopeTable,
+    interests: &InterestTable,
+    count: u32,
+) -> io::Result<Times>
+    requires free { Every (λ rope. rope.kept ≡ false) table.old.ropes }
+    requires none { interests.now.rows ≡ [] }
+{
+    let _warm = round(rt, alloc, table, interests, count)?;
+    let mut times = Times {
+        add: Duration::ZERO,
+        remove: Duration::ZERO,
+        slice: Duration::ZERO,
+        first: Duration::ZERO,
+    };
+    for _ in 0..ROUNDS {
+        let more = round(rt, alloc, table, interests, count)?;
+        times = times.plus(more);
+    }
+    Ok(times)
+}
+
+fn measure_ropes<R: Print + Clock>(rt: &R, alloc: Global, count: u32) -> io::Result<()> {
+    let mut table = RopeTable::new(alloc, BLOCK);
+    let interests = InterestTable::new(alloc);
+    if put_some(alloc, &mut table, 1, 1, count).is_err() {
+        return Err(io::Error::from(AllocError));
+    }
+    let times = rounds(rt, alloc, &mut table, &interests, count)?;
+    let add = nanos(times.add, SOME);
+    let remove = nanos(times.remove, SOME);
+    let slice = nanos(times.slice, SOME);
+    let first = nanos(times.first, 1);
+    println!(rt;
+        "{count} ropes: add {add} ns, remove {remove} ns, slice {slice} ns, the first {SOME} due {first} ns"
+    )
+}
+
+/// Prints what a rope costs to put in, to take out and to cut, and what it costs to find the first ones that a sweep removes, by the number of ropes.
+pub fn measure<R: Print + Clock + AllocGlobal>(rt: &R) -> io::Result<()> {
+    measure_ropes(rt, rt.alloc(), 100)?;
+    measure_ropes(rt, rt.alloc(), 1_000)?;
+    measure_ropes(rt, rt.alloc(), 10_000)?;
+    measure_ropes(rt, rt.alloc(), 100_000)
+}
