@@ -1,18 +1,17 @@
 -- The blocks of a recording at their addresses.
-use Rattle.std.proofs.Common.{◌≡◌, ℕ, zero, suc, ◌+◌, ◌≤◌, ◌<◌, ◌==◌, Bool, true, false, cond, not, ◌&&◌, ◌||◌, nat_lt, List, [], ◌∷◌, ◌++◌, length, Option, Some, None, refl, sym, ◌∙◌, ap, subst, arith, get_or-set_other, get_or-set_same}
+use Rattle.std.proofs.Common.{◌≡◌, ℕ, ◌+◌, ◌≤◌, ◌<◌, ◌==◌, Bool, true, false, cond, not, ◌&&◌, ◌||◌, nat_lt, List, [], ◌∷◌, length, Option, Some, None, refl, sym, ◌∙◌, ap, arith, get_or-set_other, get_or-set_same}
 use Rattle.std.proofs.Math.ListN.{length-set}
-use Rattle.std.specs.Prelude.{slice_set, slice_index_or, is_some}
+use Rattle.std.specs.Prelude.{slice_set, is_some}
 use Rattle.std.specs.List.{list_all}
-use Rattle.std.proofs.lemmas.Bool.{eqb-true, eq-eqb, ltb-true}
+use Rattle.std.proofs.lemmas.Bool.{eq-eqb, ltb-true}
 use Rattle.voice_model.specs.State.{among}
-use Rattle.voice_model.specs.Replay.{Placed, all_differ, placed_from}
+use Rattle.voice_model.specs.Replay.{all_differ}
 use Rattle.voice_blocks.specs.Holders.{Holders, holder_at, block_of, without_owner}
 use Rattle.voice_blocks.specs.declared.owner.Owner.TheVariants.{File}
 use Rattle.voice_blocks.specs.declared.owner.Holder.{Holder}
-use Rattle.recovery.specs.Shown.{placed_at}
 use Rattle.recovery.specs.Placing.{or_else, is_open, may_place}
 use Rattle.recovery.proofs.BlocksUsed.{same_or}
-use Rattle.recovery.proofs.Ropes.{not_equal, swapped}
+use Rattle.recovery.proofs.Ropes.{not_equal}
 
 -- who holds an address after a block got one
 pub holder_set : (hs : Holders) (x a : ℕ) (h : Option Holder) → x < length hs → holder_at (slice_set hs x h) a ≡ cond (a == x) h (holder_at hs a)
@@ -33,7 +32,7 @@ open_set hs x a h less =
     by_test true false = refl
     by_test false c = refl
 
-all_set : (hs : Holders) (x : ℕ) (h : Holder) (rest : List ℕ) → x < length hs → list_all (is_open (slice_set hs x (Some h))) rest ≡ (not (among rest x) && list_all (is_open hs) rest)
+pub all_set : (hs : Holders) (x : ℕ) (h : Holder) (rest : List ℕ) → x < length hs → list_all (is_open (slice_set hs x (Some h))) rest ≡ (not (among rest x) && list_all (is_open hs) rest)
 all_set hs x h [] less = refl
 all_set hs x h (a ∷ rest) less =
     ap (λ b. b && list_all (is_open (slice_set hs x (Some h))) rest) (open_set hs x a h less) ∙ ap (λ b. (not (a == x) && is_open hs a) && b) (all_set hs x h rest less)
@@ -81,14 +80,15 @@ module _ (hs : Holders) (file index x : ℕ) (less : x < length hs) (free : hold
   next_holders : Holders
   next_holders = slice_set hs x (Some (block_of (File file) index))
 
-  pub placed_step : (rest : List ℕ) (a : ℕ) → or_else (holder_at (slice_set hs x (Some (block_of (File file) index))) a) (placed_at (placed_from file (index + 1) rest) a) ≡ or_else (holder_at hs a) (placed_at (placed_from file index (x ∷ rest)) a)
-  placed_step rest a =
-      ap (λ o. or_else o (placed_at (placed_from file (index + 1) rest) a)) (holder_set hs x a (Some (block_of (File file) index)) less)
+  -- the block comes before what else is placed
+  pub placed_step : (later : Option Holder) (a : ℕ) → or_else (holder_at (slice_set hs x (Some (block_of (File file) index))) a) later ≡ or_else (holder_at hs a) (cond (x == a) (Some (block_of (File file) index)) later)
+  placed_step later a =
+      ap (λ o. or_else o later) (holder_set hs x a (Some (block_of (File file) index)) less)
       ∙ same_or a x
-      (λ same. ap (λ b. or_else (cond b (Some (block_of (File file) index)) (holder_at hs a)) (placed_at (placed_from file (index + 1) rest) a)) (eq-eqb a x same)
-      ∙ sym (ap (λ o. or_else o (placed_at (placed_from file index (x ∷ rest)) a)) (ap (holder_at hs) same ∙ free) ∙ ap (λ b. cond b (Some (block_of (File file) index)) (placed_at (placed_from file (index + 1) rest) a)) (eq-eqb x a (sym same))))
-      (λ apart. ap (λ b. or_else (cond b (Some (block_of (File file) index)) (holder_at hs a)) (placed_at (placed_from file (index + 1) rest) a)) (not_equal a x apart)
-      ∙ sym (ap (λ b. or_else (holder_at hs a) (cond b (Some (block_of (File file) index)) (placed_at (placed_from file (index + 1) rest) a))) (not_equal x a (λ e. apart (sym e)))))
+      (λ same. ap (λ b. or_else (cond b (Some (block_of (File file) index)) (holder_at hs a)) later) (eq-eqb a x same)
+      ∙ sym (ap (λ o. or_else o (cond (x == a) (Some (block_of (File file) index)) later)) (ap (holder_at hs) same ∙ free) ∙ ap (λ b. cond b (Some (block_of (File file) index)) later) (eq-eqb x a (sym same))))
+      (λ apart. ap (λ b. or_else (cond b (Some (block_of (File file) index)) (holder_at hs a)) later) (not_equal a x apart)
+      ∙ sym (ap (λ b. or_else (holder_at hs a) (cond b (Some (block_of (File file) index)) later)) (not_equal x a (λ e. apart (sym e)))))
 
   pub without_step : (a : ℕ) → without_owner (File file) (holder_at (slice_set hs x (Some (block_of (File file) index))) a) ≡ without_owner (File file) (holder_at hs a)
   without_step a =

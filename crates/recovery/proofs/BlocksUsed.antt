@@ -1,5 +1,5 @@
 -- The blocks of pieces, one after another.
-use Rattle.std.proofs.Common.{◌≡◌, ℕ, zero, suc, ◌+◌, ◌-◌, ◌*◌, ◌/◌, ◌%◌, ◌≤◌, ◌<◌, ◌^◌, ◌==◌, nat_lt, Bool, true, false, cond, ◌&&◌, ◌||◌, List, [], ◌∷◌, ◌++◌, map, length, refl, sym, ◌∙◌, ap, subst, arith}
+use Rattle.std.proofs.Common.{◌≡◌, ℕ, zero, suc, ◌+◌, ◌-◌, ◌*◌, ◌/◌, ◌%◌, ◌≤◌, ◌<◌, ◌^◌, ◌==◌, nat_lt, Bool, true, false, cond, ◌&&◌, ◌||◌, List, [], ◌∷◌, ◌++◌, length, refl, sym, ◌∙◌, ap, subst, arith}
 use Rattle.std.specs.List.{list_all}
 use Rattle.std.proofs.Math.Nat.{div-eq_of_lt-le, div-lt_iff_lt-mul, div-mul-le_self}
 use Rattle.std.proofs.lemmas.Nat.{le-div}
@@ -7,7 +7,7 @@ use Rattle.std.proofs.lemmas.Bool.{eqb-true, eq-eqb, ltb-true, leb-true}
 use Rattle.std.proofs.lemmas.List.Folds.{list_all-append}
 use Rattle.voice_units.specs.Spots.{Spot, spots_from, spots_of}
 use Rattle.std.specs.Prelude.{filter}
-use Rattle.voice_units.specs.Blocks.{BlockPair, pair_at, pairs_at, same_pair, has_pair, once, distinct}
+use Rattle.voice_units.specs.Blocks.{BlockPair, pair_at, pairs_at, same_pair, has_pair, distinct}
 use Rattle.voice_units.specs.declared.pieces.Piece.{Piece}
 use Rattle.voice_units.proofs.Distinct.{has_pair-distinct}
 use Rattle.voice_units.proofs.PiecesOfRopes.{both}
@@ -15,7 +15,7 @@ use Rattle.voice_model.specs.Spelling.{is_piece, are_pieces}
 use Rattle.voice_model.proofs.PlacesKept.{same_itself}
 use Rattle.voice_units.specs.Spots.{samples_in}
 use Rattle.rope_algebra.specs.Kept.{LieInFiles}
-use Rattle.rope_table.specs.Table.{uses_by, uses_in}
+use Rattle.rope_table.specs.Table.{uses_in}
 
 -- a later place in front of the next block lies in the same block
 pub same_block : (block at x : ℕ) → 1 ≤ block → at ≤ x → x < at - at % block + block → x / block ≡ at / block

@@ -1,5 +1,5 @@
 -- Replay goes on from what it has finished as from what it was.
-use Rattle.std.proofs.Common.{◌≡◌, ℕ, ◌+◌, ◌/◌, ◌≤◌, ◌<◌, ◌==◌, Bool, true, false, cond, not, ◌&&◌, ◌||◌, nat_lt, nat_le, List, [], ◌∷◌, ◌++◌, map, length, refl, sym, ◌∙◌, ap, arith}
+use Rattle.std.proofs.Common.{◌≡◌, ℕ, ◌≤◌, ◌==◌, Bool, true, false, cond, not, ◌&&◌, ◌||◌, nat_lt, nat_le, List, [], ◌∷◌, ◌++◌, length, refl, sym, ◌∙◌, ap, arith}
 use Rattle.std.specs.Prelude.{is_some, filter}
 use Rattle.std.specs.List.{list_all}
 use Rattle.std.proofs.lemmas.Bool.{leb-true}
@@ -8,8 +8,7 @@ use Rattle.voice_units.specs.Blocks.{BlockPair, has_pair, pairs_at, same_pair, b
 use Rattle.voice_units.proofs.Distinct.{same_pair-true}
 use Rattle.voice_units.proofs.PiecesOfRopes.{both}
 use Rattle.voice_model.specs.State.{Durable, Live, among, class_number, is_row, with_rows}
-use Rattle.voice_model.specs.State.Effect.{Recorded}
-use Rattle.voice_model.specs.Changes.{with_rope, without_expired, rows_left, is_expired}
+use Rattle.voice_model.specs.Changes.{with_rope, without_expired, rows_left}
 use Rattle.voice_model.specs.Replay.{Placed, Rebuilt, Phase, is_legal, acted, finished, brings, used_pairs, still_used, has_address, is_free_address, all_differ, may_be_recorded, new_places}
 use Rattle.voice_model.specs.Valid.{Every}
 use Rattle.voice_model.specs.Places.{IsPlaced, IsInRange}
@@ -77,7 +76,7 @@ first_or : (a b : Bool) → (a ≡ true → b ≡ true) → (a || b) ≡ true �
 first_or true b h e = h refl
 first_or false b h e = e
 
-each_of : (p : BlockPair → Bool) (pairs : List BlockPair) (pair : BlockPair) → list_all p pairs ≡ true → has_pair pairs pair ≡ true → p pair ≡ true
+pub each_of : (p : BlockPair → Bool) (pairs : List BlockPair) (pair : BlockPair) → list_all p pairs ≡ true → has_pair pairs pair ≡ true → p pair ≡ true
 each_of p [] pair h e = cc
 each_of p (q ∷ pairs) pair h e =
     let tests = both (p q) (list_all p pairs) h in by_test (same_pair pair q) refl (each_of p pairs pair tests.1) tests.0

@@ -10,3 +10,8 @@ pub mod Freed
 pub mod PlacesFreed
 pub mod Finished
 pub mod Built
+pub mod Entered
+pub mod PlacesHeld
+pub mod Noted
+pub mod Based
+pub mod TakenSoFar

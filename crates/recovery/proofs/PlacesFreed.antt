@@ -1,13 +1,13 @@
 -- The places that stay as blocks are freed.
-use Rattle.std.proofs.Common.{◌≡◌, ℕ, zero, suc, ◌+◌, ◌==◌, Bool, true, false, cond, not, nat_lt, List, [], ◌∷◌, ◌++◌, length, Option, Some, None, refl, sym, ◌∙◌, ap, subst, arith}
+use Rattle.std.proofs.Common.{◌≡◌, ℕ, zero, suc, ◌==◌, Bool, true, false, cond, not, nat_lt, List, [], ◌∷◌, ◌++◌, Some, None, refl, sym, ◌∙◌, ap, arith}
 use Rattle.std.specs.Prelude.{filter}
 use Rattle.std.proofs.lemmas.List.{append-nil}
-use Rattle.std.proofs.lemmas.Bool.{eqb-true, eq-eqb}
+use Rattle.std.proofs.lemmas.Bool.{eqb-true}
 use Rattle.voice_units.specs.declared.pieces.Piece.{Piece}
 use Rattle.voice_units.specs.Spots.{Spot}
-use Rattle.voice_units.specs.Blocks.{BlockPair, has_pair}
+use Rattle.voice_units.specs.Blocks.{has_pair}
 use Rattle.voice_model.specs.State.{Durable}
-use Rattle.voice_model.specs.Replay.{Placed, Rebuilt, still_used, used_pairs}
+use Rattle.voice_model.specs.Replay.{Placed, still_used, used_pairs}
 use Rattle.voice_model.specs.Valid.{Every}
 use Rattle.voice_model.specs.Places.{Pairwise, AtOtherAddress}
 use Rattle.voice_model.specs.declared.calls.Row.{Row}
@@ -24,7 +24,8 @@ use Rattle.recovery.proofs.Showing.{used_shown}
 holder_of : Placed → Holder
 holder_of p = block_of (File p.pair.file) p.pair.index
 
-none_at : (places : List Placed) (p : Placed) (a : ℕ) → p.address ≡ a → Every (AtOtherAddress p) places → placed_at places a ≡ None
+-- nothing else lies at the address of a place
+pub none_at : (places : List Placed) (p : Placed) (a : ℕ) → p.address ≡ a → Every (AtOtherAddress p) places → placed_at places a ≡ None
 none_at [] p a e h = refl
 none_at (q ∷ places) p a e h = ap (λ b. cond b (Some (block_of (File q.pair.file) q.pair.index)) (placed_at places a)) (not_equal q.address a (λ k. h.0 (e ∙ sym k))) ∙ none_at places p a e h.1
 

@@ -1,17 +1,16 @@
 -- What the parts rebuild after a change.
-use Rattle.std.proofs.Common.{◌≡◌, ◌⊎◌, inl, inr, ℕ, zero, suc, ◌+◌, ◌≤◌, ◌<◌, ◌==◌, Bool, true, false, cond, not, ◌&&◌, ◌||◌, nat_lt, List, [], ◌∷◌, ◌++◌, map, length, flat_map, Option, Some, None, Result, Ok, Err, refl, sym, ◌∙◌, ap, subst, arith, append_assoc}
-use Rattle.std.specs.Prelude.{is_some, filter, IfOk}
+use Rattle.std.proofs.Common.{◌≡◌, ◌⊎◌, inl, inr, ℕ, zero, suc, ◌+◌, ◌<◌, ◌==◌, Bool, true, false, cond, not, ◌&&◌, ◌||◌, nat_lt, List, [], ◌∷◌, ◌++◌, map, length, Some, None, Result, Ok, Err, refl, sym, ◌∙◌, ap, subst, arith, append_assoc}
+use Rattle.std.specs.Prelude.{filter, IfOk}
 use Rattle.std.proofs.lemmas.List.{append-nil}
-use Rattle.std.proofs.lemmas.Bool.{eqb-true, eq-eqb}
+use Rattle.std.proofs.lemmas.Bool.{eq-eqb}
 use Rattle.voice_units.specs.declared.shapes.Shape.{Shape}
 use Rattle.voice_units.specs.declared.errors.NoMemory.{NoMemory}
 use Rattle.voice_units.specs.Spots.{Spot}
 use Rattle.voice_units.specs.Blocks.{BlockPair, has_pair, pairs_at}
-use Rattle.voice_model.specs.Samples.{Tagged, spot_of}
 use Rattle.voice_model.specs.State.{Durable, Live, Effect, is_live, has_row, settled}
 use Rattle.voice_model.specs.State.Effect.{Recorded, Edited, Retained, Forgotten, Counted, Swept, Advanced}
 use Rattle.voice_model.specs.Changes.{changed}
-use Rattle.voice_model.specs.Replay.{Placed, Rebuilt, Phase, is_legal, acted, after_effect, used_pairs, still_used, live_by, durable_by, nothing_rebuilt}
+use Rattle.voice_model.specs.Replay.{Placed, Rebuilt, is_legal, acted, after_effect, used_pairs, still_used, live_by, nothing_rebuilt}
 use Rattle.voice_model.specs.Spelling.{keeps_grammar}
 use Rattle.voice_model.specs.Valid.{Every, Rising, IsRope, IsRow, IsRebuilt}
 use Rattle.voice_model.specs.Places.{IsPlaced, AllUsed}

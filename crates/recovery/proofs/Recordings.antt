@@ -1,5 +1,5 @@
 -- A recording in the tables: its addresses, its blocks and its legality.
-use Rattle.std.proofs.Common.{◌≡◌, ℕ, zero, suc, ◌+◌, ◌-◌, ◌*◌, ◌/◌, ◌≤◌, ◌<◌, ◌==◌, Bool, true, false, cond, not, ◌&&◌, ◌||◌, nat_lt, List, [], ◌∷◌, ◌++◌, length, Option, Some, None, refl, sym, ◌∙◌, ap, subst, arith, Result, Ok}
+use Rattle.std.proofs.Common.{◌≡◌, ℕ, zero, suc, ◌+◌, ◌-◌, ◌*◌, ◌/◌, ◌≤◌, ◌<◌, ◌==◌, Bool, true, false, cond, not, ◌&&◌, ◌||◌, nat_lt, List, [], ◌∷◌, ◌++◌, length, Some, None, refl, sym, ◌∙◌, ap, subst, arith, Result, Ok}
 use Rattle.std.specs.Prelude.{is_some, nat_le, filter, IfOk, Err}
 use Rattle.voice_units.specs.declared.errors.NoMemory.{NoMemory}
 use Rattle.voice_units.proofs.PiecesOfRopes.{both}
@@ -11,8 +11,8 @@ use Rattle.std.specs.List.{list_all}
 use Rattle.std.proofs.lemmas.Bool.{eqb-true, eq-eqb, le-leb}
 use Rattle.std.proofs.lemmas.Nat.{le-div}
 use Rattle.std.proofs.Math.Nat.{div-mul-le_self, div-eq_of_lt-le, mul-le-mul_right}
-use Rattle.voice_units.specs.Spots.{Spot, spots_from, spots_of, spots_in, pieces_of, nowhere}
-use Rattle.voice_units.specs.Blocks.{BlockPair, has_pair, pair_at, pairs_at, distinct, blocks_for, same_pair}
+use Rattle.voice_units.specs.Spots.{Spot, spots_from}
+use Rattle.voice_units.specs.Blocks.{BlockPair, has_pair, pairs_at, distinct, blocks_for, same_pair}
 use Rattle.voice_model.specs.State.{Durable, Live}
 use Rattle.voice_model.specs.Replay.{Placed, Rebuilt, may_be_recorded, is_free_address, has_address, still_used, placed_from, all_differ, used_pairs, is_legal, acted, after_effect}
 use Rattle.voice_model.specs.Valid.{Every}
@@ -21,7 +21,6 @@ use Rattle.voice_model.proofs.KeptByChanges.{every-append, every-imply}
 use Rattle.voice_model.proofs.PlacesKept.{same_itself, all_samples, has_pair-append}
 use Rattle.voice_blocks.specs.Holders.{Holders, holder_at, block_of, without_owner}
 use Rattle.voice_blocks.specs.declared.owner.Owner.TheVariants.{File}
-use Rattle.voice_blocks.specs.declared.owner.Holder.{Holder}
 use Rattle.recovery.specs.declared.parts.Parts.{Parts}
 use Rattle.recovery.specs.Shown.{Rebuilds, Shows, ShowsPlaces, placed_at}
 use Rattle.recovery.specs.Placing.{or_else, is_open}
@@ -41,7 +40,7 @@ not_known id next blocks (place ∷ places) later h a = by_test (place.address =
     by_test true rest = ap (λ b. cond b None (Some (block_of (File place.pair.file) place.pair.index))) (not_equal id place.pair.file (λ same. let known = h.0.known in omega (arith, same, known, later)))
     by_test false rest = rest
 
-some_address : (places : List Placed) (a : ℕ) → is_some (placed_at places a) ≡ has_address places a
+pub some_address : (places : List Placed) (a : ℕ) → is_some (placed_at places a) ≡ has_address places a
 some_address [] a = refl
 some_address (place ∷ places) a = by_test (place.address == a) (some_address places a)
   where

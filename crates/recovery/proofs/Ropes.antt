@@ -1,10 +1,9 @@
 -- The live ropes as the table of ropes shows them.
-use Rattle.std.proofs.Common.{◌≡◌, ℕ, zero, suc, ◌+◌, ◌≤◌, ◌<◌, ◌==◌, Bool, true, false, cond, not, ◌&&◌, ◌||◌, nat_lt, List, [], ◌∷◌, ◌++◌, map, flat_map, Option, Some, None, refl, sym, ◌∙◌, ap, subst, arith}
+use Rattle.std.proofs.Common.{◌≡◌, ℕ, ◌+◌, ◌≤◌, ◌==◌, Bool, true, false, cond, not, ◌&&◌, ◌||◌, nat_lt, List, [], ◌∷◌, ◌++◌, map, Option, Some, None, refl, sym, ◌∙◌, ap, subst, arith}
 use Rattle.std.specs.Prelude.{option_map, is_some}
-use Rattle.std.proofs.lemmas.Bool.{eqb-true, eq-eqb, ltb-true}
+use Rattle.std.proofs.lemmas.Bool.{eqb-true, eq-eqb}
 use Rattle.voice_units.specs.declared.shapes.Graces.{Graces}
-use Rattle.voice_units.specs.declared.pieces.Piece.{Piece}
-use Rattle.voice_units.specs.Spots.{Spot, spots_of, pieces_of, nowhere}
+use Rattle.voice_units.specs.Spots.{Spot, pieces_of, nowhere}
 use Rattle.voice_units.specs.Blocks.{BlockPair, has_pair, pairs_at}
 use Rattle.voice_units.proofs.PiecesOfRopes.{spots_of-runs}
 use Rattle.voice_model.specs.State.{Live, rope_at, is_live, row_at, has_row, settled}
@@ -17,7 +16,7 @@ use Rattle.interest_table.proofs.Found.{others, rows_of-others}
 use Rattle.voice_model.proofs.KeptByChanges.{same_bool, every-imply}
 use Rattle.voice_model.proofs.PlacesKept.{has_pair-append, all_samples}
 use Rattle.rope_table.specs.declared.ropes.Rope.{Rope}
-use Rattle.rope_table.specs.Table.{rope_of, with_rope, put_in, is_lower, uses_by, uses_in, pieces_in, held_back, idled}
+use Rattle.rope_table.specs.Table.{rope_of, with_rope, uses_in, pieces_in, held_back, idled}
 use Rattle.recovery.specs.Shown.{shown_rope}
 
 pub not_equal : (a b : ℕ) → ¬ (a ≡ b) → (a == b) ≡ false

@@ -1,14 +1,13 @@
 -- Rows that go one after another.
-use Rattle.std.proofs.Common.{◌≡◌, ℕ, zero, suc, ◌+◌, ◌≤◌, ◌<◌, ◌==◌, Bool, true, false, cond, not, ◌&&◌, ◌||◌, List, [], ◌∷◌, ◌++◌, map, length, Option, Some, None, refl, sym, ◌∙◌, ap, subst, arith, get_or, drop, drop-cons, add-one}
+use Rattle.std.proofs.Common.{◌≡◌, ℕ, suc, ◌+◌, ◌≤◌, ◌<◌, ◌==◌, Bool, true, false, cond, not, ◌&&◌, ◌||◌, List, [], ◌∷◌, map, length, Option, Some, refl, sym, ◌∙◌, ap, subst, get_or, drop, drop-cons, add-one}
 use Rattle.std.specs.Prelude.{is_some, filter, bytes_eq}
 use Rattle.std.specs.List.{list_any}
-use Rattle.std.proofs.lemmas.Bool.{eqb-true, eq-eqb}
 use Rattle.std.proofs.lemmas.Slice.Eq.{bytes_eq-Decides}
 use Rattle.voice_units.specs.Spots.{Spot}
-use Rattle.voice_model.specs.State.{Durable, Live, Effect, rope_at, is_live, row_at, is_row, has_row, settled, with_rows, class_number}
-use Rattle.voice_model.specs.State.Effect.{Counted, Forgotten}
+use Rattle.voice_model.specs.State.{Durable, Live, rope_at, is_live, row_at, is_row, has_row, settled, with_rows, class_number}
+use Rattle.voice_model.specs.State.Effect.{Forgotten}
 use Rattle.voice_model.specs.Changes.{changed, rows_left}
-use Rattle.voice_model.specs.Valid.{Every, Rising, Once}
+use Rattle.voice_model.specs.Valid.{Rising}
 use Rattle.voice_model.specs.declared.calls.Row.{Row}
 use Rattle.voice_model.specs.declared.calls.Class.{Class}
 use Rattle.voice_model.specs.declared.calls.Class.TheVariants.{Listed}

@@ -1,17 +1,16 @@
 -- What the tables show after a step of a change.
-use Rattle.std.proofs.Common.{◌≡◌, ℕ, zero, suc, ◌+◌, ◌≤◌, ◌<◌, ◌==◌, Bool, true, false, cond, not, ◌&&◌, nat_lt, List, [], ◌∷◌, ◌++◌, map, length, Option, Some, None, refl, sym, ◌∙◌, ap, subst, arith}
-use Rattle.std.specs.Prelude.{is_some, filter, option_map}
+use Rattle.std.proofs.Common.{◌≡◌, ℕ, suc, ◌+◌, ◌≤◌, ◌<◌, ◌==◌, Bool, true, false, cond, nat_lt, List, [], ◌∷◌, ◌++◌, map, length, Option, Some, None, refl, sym, ◌∙◌, ap, arith}
+use Rattle.std.specs.Prelude.{is_some, option_map}
 use Rattle.voice_units.specs.Blocks.{BlockPair, has_pair, pairs_at}
 use Rattle.voice_model.specs.Replay.{used_pairs}
 use Rattle.voice_model.proofs.PlacesKept.{all_samples}
 use Rattle.std.proofs.lemmas.Bool.{eqb-true, eq-eqb}
-use Rattle.voice_units.specs.declared.shapes.Graces.{Graces}
 use Rattle.voice_units.specs.declared.pieces.Piece.{Piece}
 use Rattle.voice_units.specs.Spots.{Spot, pieces_of}
-use Rattle.voice_model.specs.State.{Durable, Live, rope_at, is_live, row_at, has_row, settled, with_rows, class_number}
+use Rattle.voice_model.specs.State.{Durable, Live, rope_at, is_live, row_at, has_row, with_rows, class_number}
 use Rattle.voice_model.specs.Changes.{wait_of, with_rope, changed}
 use Rattle.voice_model.specs.State.Effect.{Retained, Forgotten}
-use Rattle.voice_model.specs.Valid.{Every, Once}
+use Rattle.voice_model.specs.Valid.{Once}
 use Rattle.voice_model.specs.declared.calls.Row.{Row}
 use Rattle.voice_model.specs.declared.calls.Class.{Class}
 use Rattle.interest_table.specs.Table.{rows_of}

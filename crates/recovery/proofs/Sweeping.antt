@@ -1,28 +1,24 @@
 -- What the tables show after a sweep.
-use Rattle.std.proofs.Common.{◌≡◌, ℕ, zero, suc, ◌+◌, ◌≤◌, ◌<◌, ◌==◌, Bool, true, false, cond, not, ◌&&◌, ◌||◌, nat_lt, List, [], ◌∷◌, ◌++◌, map, length, Option, Some, None, refl, sym, ◌∙◌, ap, subst, arith}
+use Rattle.std.proofs.Common.{◌≡◌, ℕ, ◌==◌, Bool, true, false, cond, not, ◌&&◌, ◌||◌, List, [], ◌∷◌, map, Option, Some, None, refl, sym, ◌∙◌, ap, subst}
 use Rattle.std.specs.Prelude.{is_some, filter, bytes_eq}
 use Rattle.std.specs.List.{list_any, list_all}
-use Rattle.std.proofs.lemmas.Bool.{eqb-true, eq-eqb}
 use Rattle.std.proofs.lemmas.Slice.Eq.{bytes_eq-Decides}
 use Rattle.voice_units.specs.declared.pieces.Piece.{Piece}
 use Rattle.voice_units.specs.declared.shapes.Graces.{Graces}
 use Rattle.voice_units.specs.Spots.{Spot}
-use Rattle.voice_units.specs.Blocks.{BlockPair, has_pair}
-use Rattle.voice_model.specs.State.{Durable, Live, rope_at, is_live, row_at, is_row, has_row, settled, class_number, among}
+use Rattle.voice_model.specs.State.{Durable, Live, rope_at, is_live, row_at, is_row, has_row, class_number, among}
 use Rattle.voice_model.specs.State.Effect.{Swept}
 use Rattle.voice_model.specs.Changes.{changed, is_expired, without_expired}
-use Rattle.voice_model.specs.Replay.{Placed, Rebuilt, may_go, still_used, used_pairs}
+use Rattle.voice_model.specs.Replay.{may_go}
 use Rattle.voice_model.specs.Valid.{Every, Once}
 use Rattle.voice_model.specs.declared.calls.Row.{Row}
 use Rattle.voice_model.specs.declared.calls.Class.{Class}
 use Rattle.voice_model.specs.declared.calls.Class.TheVariants.{Held, Until, Listed}
-use Rattle.voice_model.proofs.KeptByChanges.{every-imply}
 use Rattle.interest_table.specs.Table.{expired_keys}
-use Rattle.interest_table.proofs.Found.{is_that_row}
 use Rattle.rope_table.specs.declared.ropes.Rope.{Rope}
 use Rattle.rope_table.specs.Table.{Table, Counts, rope_of}
-use Rattle.recovery.specs.Shown.{shown_rope, ShowsKept, rows_without, placed_at}
-use Rattle.recovery.proofs.Ropes.{rope_of-shown, some_mapped, not_equal}
+use Rattle.recovery.specs.Shown.{shown_rope, ShowsKept, rows_without}
+use Rattle.recovery.proofs.Ropes.{rope_of-shown, some_mapped}
 use Rattle.recovery.proofs.BlocksUsed.{same_all}
 use Rattle.recovery.proofs.RowsGone.{live_settled}
 

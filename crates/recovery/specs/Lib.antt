@@ -1,3 +1,4 @@
 pub mod Shown
 pub mod Placing
 pub mod Building
+pub mod Replayed

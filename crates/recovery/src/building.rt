@@ -69,11 +69,12 @@ impl Building {
         })
     }
 
-    /// The end of a list, or of its base: drops the blocks that nothing uses.
+    /// The end of a list, or of its base: drops the blocks that nothing uses. It goes over the noted blocks, and then none is noted.
     pub(crate) fn finish(&mut self)
         ensures { (r : Rebuilt) → Builds self.old r → Rebuilds self.new.parts (finished r) }
     {
         free_noted(&self.parts.ropes, &mut self.parts.blocks, &self.noted);
+        self.noted.clear();
     }
 
     /// Tries a change of a kind that a running server makes.
@@ -134,5 +135,32 @@ impl Building {
         };
         self.begin(2, now, next);
         true
+    }
+
+    /// Tries a change: true exactly where it may follow, and then it has acted. After false or want of memory replay ends.
+    pub(crate) fn apply(
+        &mut self,
+        alloc: Global,
+        shape: &Shape,
+        change: &Change,
+    ) -> Result<bool, NoMemory>
+        requires grammar { keeps_grammar change.now ≡ true }
+        requires building { IsBuilding shape.now self.old }
+        ensures legal { (r : Rebuilt) → Builds self.old r → r.shape ≡ shape.now → IfOk result (λ done. done ≡ is_legal r change.now) }
+        ensures done { (r : Rebuilt) → Builds self.old r → r.shape ≡ shape.now → result ≡ Ok true → Builds self.new (acted r change.now) }
+    {
+        match change {
+            Change::Base(now, next) => Ok(self.try_base(*now, *next)),
+            Change::Base2(now, next) => Ok(self.try_base2(*now, *next)),
+            Change::File(file, pairs) => self.try_file(*file, pairs.items()),
+            Change::File2(file, pairs) => self.try_file2(*file, pairs.items()),
+            Change::Rope(id, idle, pieces) => {
+                self.try_rope(alloc, shape, *id, *idle, pieces.items())
+            }
+            Change::Rope2(id, idle, last, pieces) => {
+                self.try_rope2(alloc, shape, *id, *idle, *last, pieces.items())
+            }
+            _ => self.go_on(alloc, shape, change),
+        }
     }
 }

@@ -28,7 +28,7 @@ fn number_of(class: Class) -> u8
 }
 
 /// How long a rope waits that lost a row of this class last, or none at 0.
-fn wait_after(graces: &Graces, last: u8) -> u32
+pub(crate) fn wait_after(graces: &Graces, last: u8) -> u32
     ensures { result ≡ wait_of graces.now last }
 {
     match last {

@@ -1,6 +1,7 @@
 //! What the changes of a journal rebuild: the live ropes, the interests and the addresses of blocks.
 #![tactic(auto)]
 
+mod bases;
 mod building;
 mod census;
 mod edits;
@@ -9,9 +10,13 @@ mod freeing;
 mod kinds;
 mod parts;
 mod placing;
+mod replaying;
 mod sweeps;
 
 pub use parts::Parts;
+pub use replaying::{ReplayError, replay};
 
+#[cfg(test)]
+mod replay_tests;
 #[cfg(test)]
 mod tests;

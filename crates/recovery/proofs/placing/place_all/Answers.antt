@@ -47,7 +47,7 @@ loop-index-preserved c =
           step.legal ∙ ap (may_place hs file k) (drop_next xs k within) ∙ ap (λ b. b && may_place (slice_set hs x (Some (block_of (File file) k))) file (k + 1) rest) (open_at hs x placed.0 placed.1)
           ∙ ap (λ l. may_place l file (k + 1) rest) (sym next);
       placed = λ a.
-          ap (λ l. or_else (holder_at l a) (placed_at (placed_from file (k + 1) rest) a)) next ∙ placed_step hs file k x placed.0 placed.1 rest a
+          ap (λ l. or_else (holder_at l a) (placed_at (placed_from file (k + 1) rest) a)) next ∙ placed_step hs file k x placed.0 placed.1 (placed_at (placed_from file (k + 1) rest) a) a
           ∙ ap (λ l. or_else (holder_at hs a) (placed_at (placed_from file k l) a)) (sym (drop_next xs k within)) ∙ step.placed a;
       before = λ a. ap (λ l. without_owner (File file) (holder_at l a)) next ∙ without_step hs file k x placed.0 placed.1 a ∙ step.before a;
       fresh = λ a j later e. fresh_step hs file k x placed.0 placed.1 step.fresh a j later (ap (λ l. holder_at l a) (sym next) ∙ e);

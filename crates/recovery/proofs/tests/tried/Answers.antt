@@ -1,4 +1,3 @@
-use Rattle.std.proofs.Common.{Ok, Err, sym, ◌∙◌}
 use Rattle.recovery.proofs.Rebuilding.{parts_after}
 use Rattle.recovery.proofs.tests.tried.Goals as goal
 

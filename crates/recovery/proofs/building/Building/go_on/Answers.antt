@@ -1,7 +1,6 @@
-use Rattle.std.proofs.Common.{◌≡◌, ◌+◌, ◌<◌, ◌^◌, length, Bool, true, false, Result, Ok, refl, sym, ◌∙◌, ap, subst, arith}
-use Rattle.std.specs.Prelude.{IfOk}
+use Rattle.std.proofs.Common.{◌≡◌, Bool, true, false, Result, Ok, refl, sym, ◌∙◌, ap, subst}
 use Rattle.voice_units.specs.declared.errors.NoMemory.{NoMemory}
-use Rattle.voice_model.specs.Replay.{Rebuilt, finished, is_legal, acted}
+use Rattle.voice_model.specs.Replay.{finished}
 use Rattle.recovery.proofs.Finished.{legal_finished}
 use Rattle.recovery.proofs.Built.{built_later}
 use Rattle.recovery.proofs.building.Building.go_on.Goals as goal

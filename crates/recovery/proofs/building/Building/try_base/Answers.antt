@@ -1,4 +1,4 @@
-use Rattle.std.proofs.Common.{◌≡◌, ◌==◌, ◌&&◌, true, refl, sym, ◌∙◌, ap, eq-eqb}
+use Rattle.std.proofs.Common.{◌≡◌, ◌&&◌, true, refl, sym, ◌∙◌, ap, eq-eqb}
 use Rattle.voice_model.specs.Replay.{is_begun}
 use Rattle.voice_model.specs.declared.changes.Change.TheVariants as changes
 use Rattle.recovery.specs.Building.{phase_of}

@@ -1,4 +1,4 @@
-use Rattle.std.proofs.Common.{◌≡◌, ◌==◌, cond, ℕ, refl, sym, ◌∙◌, ap, eq-eqb}
+use Rattle.std.proofs.Common.{◌≡◌, cond, ℕ, refl, sym, ◌∙◌, ap, eq-eqb}
 use Rattle.voice_model.specs.State.{form_of}
 use Rattle.recovery.proofs.Ropes.{not_equal}
 use Rattle.recovery.proofs.Rebuilding.{nothing_shown}

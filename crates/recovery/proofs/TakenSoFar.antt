@@ -1,0 +1,52 @@
+-- What the records taken so far rebuild.
+use Rattle.std.proofs.Common.{◌≡◌, ℕ, ◌+◌, ◌≤◌, ◌<◌, false, List, [], ◌∷◌, length, drop, get_or, Option, Some, None, refl, sym, ◌∙◌, ap}
+use Rattle.std.proofs.Math.ListN.{drop_of_length-le}
+use Rattle.voice_journal.specs.declared.lists.Placed.{Placed}
+use Rattle.voice_units.specs.declared.shapes.Shape.{Shape}
+use Rattle.voice_model.specs.Spelling.{change_in}
+use Rattle.voice_model.specs.Replay.{Rebuilt, nothing_rebuilt, acted}
+use Rattle.voice_model.specs.Image.{Record, Replayed, replayed, if_allowed, by_change}
+use Rattle.voice_model.specs.declared.changes.Change.{Change}
+use Rattle.recovery.specs.declared.building.Building.{Building}
+use Rattle.recovery.specs.Building.{Builds, IsTaken, is_allowed}
+use Rattle.recovery.specs.Shown.{numbered}
+use Rattle.recovery.specs.Replayed.{bytes_of}
+use Rattle.recovery.proofs.Rebuilding.{acted_shape}
+use Rattle.recovery.proofs.RowsGone.{drop_next}
+
+-- all records go on as the rest does from what was rebuilt
+pub record GoesOn (shape : Shape) (building : Building) (all rest : List Record) : Type 0 where
+  pub what : Rebuilt
+  pub builds : Builds building what
+  pub in_shape : what.shape ≡ shape
+  pub same : replayed (nothing_rebuilt shape) all ≡ replayed what rest
+
+pub goes_on : (shape : Shape) (building : Building) (all : List Record) → Builds building (nothing_rebuilt shape) → GoesOn shape building all all
+goes_on shape building all h = record { what = nothing_rebuilt shape; builds = h; in_shape = refl; same = refl }
+
+pub one_more : (shape : Shape) (old new : Building) (all left rest : List Record) (one : Record) (h : GoesOn shape old all left) → left ≡ one ∷ rest → IsTaken new h.what one.payload → GoesOn shape new all rest
+one_more shape old new all left rest one h is taken = record {
+  what = acted h.what taken.change;
+  builds = taken.builds;
+  in_shape = acted_shape h.what taken.change ∙ h.in_shape;
+  same =
+      h.same ∙ ap (replayed h.what) is ∙ ap (λ o. by_change h.what one.at o (λ next. replayed next rest)) taken.spelled
+      ∙ ap (λ b. if_allowed b one.at (replayed (acted h.what taken.change) rest)) taken.legal;
+}
+
+pub one_refused : (shape : Shape) (building : Building) (all left rest : List Record) (one : Record) (h : GoesOn shape building all left) → left ≡ one ∷ rest → false ≡ is_allowed h.what (change_in one.payload)
+    → replayed (nothing_rebuilt shape) all ≡ Replayed.Refused one.at
+one_refused shape building all left rest one h is bad = h.same ∙ ap (replayed h.what) is ∙ by_option (change_in one.payload) bad
+  where
+    by_option : (o : Option Change) → false ≡ is_allowed h.what o → by_change h.what one.at o (λ next. replayed next rest) ≡ Replayed.Refused one.at
+    by_option None e = refl
+    by_option (Some c) e = ap (λ b. if_allowed b one.at (replayed (acted h.what c) rest)) (sym e)
+
+-- a payload and the rest, as records
+pub next_record : (payloads : List Placed) (k : ℕ) (payload : Placed) → k < length payloads → payload ≡ get_or payloads k payload
+    → numbered k (bytes_of (drop k payloads)) ≡ record { at = k; payload = payload.bytes.items } ∷ numbered (k + 1) (bytes_of (drop (k + 1) payloads))
+next_record payloads k payload h is = ap (λ l. numbered k (bytes_of l)) (drop_next payloads k payload h is)
+
+-- no payload is left
+pub no_record : (payloads : List Placed) (k : ℕ) → length payloads ≤ k → numbered k (bytes_of (drop k payloads)) ≡ []
+no_record payloads k h = ap (λ l. numbered k (bytes_of l)) (drop_of_length-le payloads h)
