@@ -1,7 +1,12 @@
 pub mod Above
+pub mod Again
+pub mod FilesOnce
+pub mod Held
 pub mod Joined
 pub mod Lists
 pub mod Names
+pub mod Numbers
 pub mod Runs
+pub mod Shown
 pub mod Tables
 pub mod Used

@@ -28,7 +28,7 @@ use Rattle.checkpoint.proofs.Names.{noted_names}
 use Rattle.checkpoint.proofs.Used.{used_placed}
 use Rattle.checkpoint.proofs.Joined.{parts_joined}
 
-spots_shown : (graces : Graces) (rows : List Row) (ropes : List (Live Spot)) → spots_in_ropes (map (shown_rope graces rows) ropes) ≡ flat_map (λ rope. rope.samples) ropes
+pub spots_shown : (graces : Graces) (rows : List Row) (ropes : List (Live Spot)) → spots_in_ropes (map (shown_rope graces rows) ropes) ≡ flat_map (λ rope. rope.samples) ropes
 spots_shown graces rows [] = refl
 spots_shown graces rows (rope ∷ ropes) =
     ap (λ l. l ++ spots_in_ropes (map (shown_rope graces rows) ropes)) (spots_of-runs nowhere rope.samples)

@@ -1,2 +1,4 @@
 pub mod Blocks
 pub mod Compact
+pub mod Size
+pub mod Again

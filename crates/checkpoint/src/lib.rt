@@ -6,5 +6,10 @@ mod compacting;
 mod files;
 mod putting;
 mod ropes;
+mod sizes;
 
-pub use compacting::compact;
+pub use compacting::{compact, compact_parts};
+pub use sizes::{BaseNumbers, base_size};
+
+#[cfg(test)]
+mod tests;

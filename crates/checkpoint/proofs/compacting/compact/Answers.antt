@@ -1,11 +1,14 @@
-use Rattle.std.proofs.Common.{◌≡◌, map, ◌∙◌, ap}
+use Rattle.std.proofs.Common.{◌≡◌, map, sym, ◌∙◌, ap, subst}
 use Rattle.voice_model.specs.Spelling.{spelling}
 use Rattle.voice_model.specs.Base.{base_of, by_file, file_change, row_change}
 use Rattle.voice_model.specs.Replay.{Rebuilt}
 use Rattle.voice_journal.specs.Readings.{framed_size}
 use Rattle.checkpoint.specs.Blocks.{place_of_block, kept_change}
 use Rattle.checkpoint.specs.Compact.{CanCompact, head_change}
+use Rattle.checkpoint.specs.Again.{ReplaysAs}
+use Rattle.checkpoint.proofs.Again.{replays_as}
 use Rattle.checkpoint.proofs.Joined.{grown, same_size}
+use Rattle.checkpoint.proofs.Shown.{framed_shown}
 use Rattle.checkpoint.proofs.Tables.{numbers, placed_are, head_fits, files_fit, ropes_fit, rows_fit, whole}
 use Rattle.checkpoint.proofs.compacting.compact.Goals as goal
 
@@ -49,3 +52,12 @@ returns-clause-base c = base_is c
 
 pub returns-clause-size : goal.returns-clause-size
 returns-clause-size c = λ r can. ap framed_size (base_is c r can) ∙ same_size (base_of c.args.form r)
+
+pub returns-clause-numbers : goal.returns-clause-numbers
+returns-clause-numbers c =
+    ap framed_size (base_is c c.requires.what c.requires.can)
+    ∙ same_size (base_of c.args.form c.requires.what)
+    ∙ framed_shown c.args.form c.args.table.now c.args.interests.now.rows c.args.blocks.now.holders c.args.moment c.args.next c.requires.what c.requires.can
+
+pub returns-clause-replays : goal.returns-clause-replays
+returns-clause-replays c = λ r can. subst (ReplaysAs c.args.form r) (sym (base_is c r can)) (replays_as c.args.form r can.valid can.placed can.used can.spelled)

@@ -1,0 +1,287 @@
+//! Bases of small disks, byte for byte, and of what many changes leave.
+
+ghost use Rattle.std.specs.Prelude.{◌≡◌, is_some, IfOk};
+ghost use Rattle.recovery.specs.Shown.{IsParts};
+ghost use Rattle.voice_model.specs.Replay.{brings};
+
+use super::{BaseNumbers, base_size, compact_parts};
+use change_codec::get;
+use recovery::Parts;
+use std::alloc::Global;
+use std::test::Fail;
+use voice_journal::Payloads;
+use voice_model::Change;
+use voice_units::{BadShape, Graces, NoMemory, Shape};
+
+mod many;
+
+// 64 blocks of 8 samples.
+fn small_shape(version: u32) -> Result<Shape, BadShape> {
+    let graces = Graces {
+        common: 60,
+        held: 60,
+        until: 60,
+        listed: 60,
+    };
+    Shape::new(version, 8, 64, 4096, graces, 4, 1 << 20)
+}
+
+fn empty_parts(alloc: Global, shape: &Shape) -> Result<Parts, NoMemory>
+    ensures { IfOk result (λ parts. IsParts shape.now parts) }
+{
+    Parts::empty(alloc, shape)
+}
+
+// Whether a running server makes changes of this kind.
+fn is_of_a_server(change: &Change) -> bool
+    ensures { result ≡ is_some (brings change.now) }
+{
+    match change {
+        Change::Base(..)
+        | Change::Base2(..)
+        | Change::File(..)
+        | Change::File2(..)
+        | Change::Rope(..)
+        | Change::Rope2(..) => false,
+        _ => true,
+    }
+}
+
+// Tries the change that bytes spell: 1 where it was done, else 0.
+fn tried(parts: &mut Parts, alloc: Global, shape: &Shape, bytes: &[u8]) -> u64
+    requires { IsParts shape.now parts.old }
+    ensures { IsParts shape.now parts.new }
+{
+    let Ok(change) = get(alloc, bytes) else {
+        return 0;
+    };
+    if !is_of_a_server(&change) {
+        return 0;
+    }
+    if parts.ropes.count() > 999 {
+        return 0;
+    }
+    if parts.interests.is_full() {
+        return 0;
+    }
+    match parts.apply(alloc, shape, &change) {
+        Ok(done) => u64::from(done),
+        Err(_) => 0,
+    }
+}
+
+// The base in a form, where the parts may take it.
+fn compacted(parts: &Parts, alloc: Global, shape: &Shape, form: u8) -> Result<Payloads, NoMemory>
+    requires { IsParts shape.now parts.now }
+{
+    if form == 2 {
+        return compact_parts(alloc, 2, parts);
+    }
+    if parts.form == 1 {
+        return compact_parts(alloc, 1, parts);
+    }
+    Err(NoMemory)
+}
+
+fn is_payload(payloads: &Payloads, k: u32, bytes: &[u8]) -> bool {
+    match payloads.get(k) {
+        Some(payload) => payload == bytes,
+        None => false,
+    }
+}
+
+// The first payload that is not as the list has it, or the length of the list where there are just these.
+fn same_until(payloads: &Payloads, list: &[&[u8]]) -> usize {
+    for (k, bytes) in list.iter().enumerate() {
+        let Ok(index) = u32::try_from(k) else {
+            return k;
+        };
+        if !is_payload(payloads, index, bytes) {
+            return k;
+        }
+    }
+    match u32::try_from(list.len()) {
+        Ok(count) if payloads.get(count).is_none() => list.len(),
+        _ => list.len() + 1,
+    }
+}
+
+const BEGUN: [u8; 17] = [8, 0, 0, 0, 0, 0, 0, 0, 0, 0, 0, 0, 0, 0, 0, 0, 1];
+
+const BEGUN_2: [u8; 17] = [12, 0, 0, 0, 0, 0, 0, 0, 0, 0, 0, 0, 0, 0, 0, 0, 1];
+
+#[test]
+fn nothing(rt: HostRuntime) -> Result<(), Fail> {
+    let alloc = rt.alloc();
+    let Ok(shape) = small_shape(1) else {
+        return Ok(());
+    };
+    let parts = empty_parts(alloc, &shape)?;
+    let base = compacted(&parts, alloc, &shape, 1)?;
+    assert_eq!(rt; same_until(&base, &[&BEGUN]), 1);
+    assert_eq!(rt; base.size(), 22);
+    let base = compacted(&parts, alloc, &shape, 2)?;
+    assert_eq!(rt; same_until(&base, &[&BEGUN_2]), 1);
+    assert_eq!(rt; base.size(), 22);
+    Ok(())
+}
+
+// 20 samples, in the blocks at 0, 1 and 2.
+const RECORDED: [u8; 23] = [
+    1, 0, 0, 0, 0, 0, 0, 0, 1, 0, 0, 0, 20, 0, 0, 0, 3, 0, 0, 0, 1, 0, 2,
+];
+
+// Rope 3 is made of the first five samples of file 1, and of the last five.
+const EDITED: [u8; 43] = [
+    2, 0, 0, 0, 0, 0, 0, 0, 3, 0, 2, 0, 0, 0, 0, 0, 0, 0, 1, 0, 0, 0, 0, 0, 0, 0, 5, 0, 0, 0, 0, 0,
+    0, 0, 1, 0, 0, 0, 15, 0, 0, 0, 5,
+];
+
+// A row of class held, with key mail.1 and note hi, for rope 3.
+const RETAINED: [u8; 20] = [
+    3, 1, 6, 109, 97, 105, 108, 46, 49, 0, 0, 0, 0, 0, 0, 0, 3, 2, 104, 105,
+];
+
+const ADVANCED: [u8; 9] = [7, 0, 0, 0, 0, 0, 0, 0, 60];
+
+// 9 samples, in the blocks at 7 and 4.
+const RECORDED_LATER: [u8; 21] = [
+    1, 0, 0, 0, 0, 0, 0, 0, 4, 0, 0, 0, 9, 0, 0, 0, 2, 0, 7, 0, 4,
+];
+
+// Rope 5 is the last sample of file 4.
+const LAST_SAMPLE: [u8; 27] = [
+    2, 0, 0, 0, 0, 0, 0, 0, 5, 0, 1, 0, 0, 0, 0, 0, 0, 0, 4, 0, 0, 0, 8, 0, 0, 0, 1,
+];
+
+// Rope 4 goes, and with it the first block of its file.
+const SWEPT: [u8; 11] = [6, 0, 1, 0, 0, 0, 0, 0, 0, 0, 4];
+
+// How many of these changes were done.
+fn done(parts: &mut Parts, alloc: Global, shape: &Shape) -> u64
+    requires { IsParts shape.now parts.old }
+    ensures { IsParts shape.now parts.new }
+{
+    let first = tried(parts, alloc, shape, &RECORDED);
+    let second = tried(parts, alloc, shape, &EDITED);
+    let third = tried(parts, alloc, shape, &RETAINED);
+    let fourth = tried(parts, alloc, shape, &ADVANCED);
+    let fifth = tried(parts, alloc, shape, &RECORDED_LATER);
+    let sixth = tried(parts, alloc, shape, &LAST_SAMPLE);
+    let last = tried(parts, alloc, shape, &SWEPT);
+    first & second & third & fourth & fifth & sixth & last
+}
+
+const HEAD: [u8; 17] = [8, 0, 0, 0, 0, 0, 0, 0, 60, 0, 0, 0, 0, 0, 0, 0, 6];
+
+const FILE: [u8; 31] = [
+    9, 0, 0, 0, 0, 0, 0, 0, 1, 0, 0, 0, 3, 0, 0, 0, 0, 0, 0, 0, 0, 0, 1, 0, 1, 0, 0, 0, 2, 0, 2,
+];
+
+const FILE_4: [u8; 19] = [9, 0, 0, 0, 0, 0, 0, 0, 4, 0, 0, 0, 1, 0, 0, 0, 1, 0, 4];
+
+const ROPE: [u8; 35] = [
+    10, 0, 0, 0, 0, 0, 0, 0, 1, 0, 0, 0, 0, 0, 0, 0, 0, 0, 1, 0, 0, 0, 0, 0, 0, 0, 1, 0, 0, 0, 0,
+    0, 0, 0, 20,
+];
+
+const ROPE_3: [u8; 51] = [
+    10, 0, 0, 0, 0, 0, 0, 0, 3, 0, 0, 0, 0, 0, 0, 0, 0, 0, 2, 0, 0, 0, 0, 0, 0, 0, 1, 0, 0, 0, 0,
+    0, 0, 0, 5, 0, 0, 0, 0, 0, 0, 0, 1, 0, 0, 0, 15, 0, 0, 0, 5,
+];
+
+const ROPE_5: [u8; 35] = [
+    10, 0, 0, 0, 0, 0, 0, 0, 5, 0, 0, 0, 0, 0, 0, 0, 60, 0, 1, 0, 0, 0, 0, 0, 0, 0, 4, 0, 0, 0, 8,
+    0, 0, 0, 1,
+];
+
+const HEAD_2: [u8; 17] = [12, 0, 0, 0, 0, 0, 0, 0, 60, 0, 0, 0, 0, 0, 0, 0, 6];
+
+const FILE_4_2: [u8; 21] = [
+    13, 0, 0, 0, 0, 0, 0, 0, 4, 0, 0, 0, 1, 0, 0, 0, 1, 0, 0, 0, 4,
+];
+
+const ROPE_5_2: [u8; 36] = [
+    14, 0, 0, 0, 0, 0, 0, 0, 5, 0, 0, 0, 0, 0, 0, 0, 60, 0, 0, 1, 0, 0, 0, 0, 0, 0, 0, 4, 0, 0, 0,
+    8, 0, 0, 0, 1,
+];
+
+#[test]
+fn changes(rt: HostRuntime) -> Result<(), Fail> {
+    let alloc = rt.alloc();
+    let Ok(shape) = small_shape(1) else {
+        return Ok(());
+    };
+    let mut parts = empty_parts(alloc, &shape)?;
+    assert_eq!(rt; done(&mut parts, alloc, &shape), 1);
+    let base = compacted(&parts, alloc, &shape, 1)?;
+    let list: [&[u8]; 7] = [&HEAD, &FILE, &FILE_4, &ROPE, &ROPE_3, &ROPE_5, &RETAINED];
+    assert_eq!(rt; same_until(&base, &list), 7);
+    assert_eq!(rt; base.size(), 243);
+    let base = compacted(&parts, alloc, &shape, 2)?;
+    assert!(rt; is_payload(&base, 0, &HEAD_2));
+    assert!(rt; is_payload(&base, 2, &FILE_4_2));
+    assert!(rt; is_payload(&base, 5, &ROPE_5_2));
+    assert!(rt; is_payload(&base, 6, &RETAINED));
+    assert_eq!(rt; base.size(), 254);
+    Ok(())
+}
+
+// In form 2: 9 samples, in the blocks at 40 and 4.
+const WIDE: [u8; 25] = [
+    11, 0, 0, 0, 0, 0, 0, 0, 1, 0, 0, 0, 9, 0, 0, 0, 2, 0, 0, 0, 40, 0, 0, 0, 4,
+];
+
+// Rope 1 had a row of class listed last.
+const ROPE_LISTED: [u8; 36] = [
+    14, 0, 0, 0, 0, 0, 0, 0, 1, 0, 0, 0, 0, 0, 0, 0, 0, 3, 0, 1, 0, 0, 0, 0, 0, 0, 0, 1, 0, 0, 0,
+    0, 0, 0, 0, 9,
+];
+
+#[test]
+fn last_class(rt: HostRuntime) -> Result<(), Fail> {
+    let alloc = rt.alloc();
+    let Ok(shape) = small_shape(2) else {
+        return Ok(());
+    };
+    let mut parts = empty_parts(alloc, &shape)?;
+    assert_eq!(rt; tried(&mut parts, alloc, &shape, &WIDE), 1);
+    let row = [3, 3, 1, 0x6b, 0, 0, 0, 0, 0, 0, 0, 1, 0];
+    assert_eq!(rt; tried(&mut parts, alloc, &shape, &row), 1);
+    assert_eq!(rt; tried(&mut parts, alloc, &shape, &[4, 3, 1, 0x6b]), 1);
+    let base = compacted(&parts, alloc, &shape, 2)?;
+    let head = [12, 0, 0, 0, 0, 0, 0, 0, 0, 0, 0, 0, 0, 0, 0, 0, 2];
+    let file = [
+        13, 0, 0, 0, 0, 0, 0, 0, 1, 0, 0, 0, 2, 0, 0, 0, 0, 0, 0, 0, 40, 0, 0, 0, 1, 0, 0, 0, 4,
+    ];
+    let list: [&[u8]; 3] = [&head, &file, &ROPE_LISTED];
+    assert_eq!(rt; same_until(&base, &list), 3);
+    Ok(())
+}
+
+fn numbers(list: [u64; 7]) -> BaseNumbers {
+    let [files, blocks, ropes, pieces, rows, key_bytes, note_bytes] = list;
+    BaseNumbers {
+        files,
+        blocks,
+        ropes,
+        pieces,
+        rows,
+        key_bytes,
+        note_bytes,
+    }
+}
+
+#[test]
+fn sizes(rt: HostRuntime) {
+    let table = [
+        (1, [0, 0, 0, 0, 0, 0, 0], 22),
+        (2, [0, 0, 0, 0, 0, 0, 0], 22),
+        (1, [2, 4, 3, 4, 1, 6, 2], 243),
+        (2, [2, 4, 3, 4, 1, 6, 2], 254),
+        (1, [u64::MAX, 0, 0, 0, 0, 0, 0], u64::MAX),
+    ];
+    for (form, list, size) in table {
+        assert_eq!(rt; base_size(form, &numbers(list)), size);
+    }
+}
