@@ -1,0 +1,12 @@
+pub mod Histories
+pub mod Carry
+pub mod Landed
+pub mod Near
+pub mod Pushing
+pub mod Opened
+pub mod Noted
+pub mod Changing
+pub mod Commits
+pub mod Landing
+pub mod Blocks
+pub mod Writing

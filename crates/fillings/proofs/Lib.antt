@@ -1,0 +1,10 @@
+pub mod Filling
+pub mod Images
+pub mod Acted
+pub mod Edits
+pub mod Recordings
+pub mod Calls
+pub mod Counting
+pub mod RecordedBlocks
+pub mod Sizes
+pub mod PlacesUsed

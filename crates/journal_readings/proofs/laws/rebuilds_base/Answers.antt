@@ -1,0 +1,5 @@
+use Rattle.journal_readings.proofs.Replays.{switch}
+use Rattle.journal_readings.proofs.laws.rebuilds_base.Goals as goal
+
+pub returns : goal.returns
+returns c = record { switch = switch }

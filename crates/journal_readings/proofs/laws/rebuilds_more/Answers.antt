@@ -1,0 +1,5 @@
+use Rattle.journal_readings.proofs.Replays.{append}
+use Rattle.journal_readings.proofs.laws.rebuilds_more.Goals as goal
+
+pub returns : goal.returns
+returns c = record { append = append }
