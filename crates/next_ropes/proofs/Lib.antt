@@ -1,0 +1,5 @@
+pub mod Performed
+pub mod Dropped
+pub mod TakenLowest
+pub mod Spelled
+pub mod Readied

@@ -1,0 +1,75 @@
+//! Ropes that are ready come, or are given back.
+
+ghost use Rattle.std.specs.Prelude.{◌≡◌, ℕ, ◌≤◌, ◌<◌, ◌^◌, true, length, IfOk, if◌then◌else◌};
+ghost use Rattle.voice_model.specs.declared.Change.{Change};
+ghost use Rattle.voice_model.specs.Replay.{Rebuilt, acted};
+ghost use Rattle.recovery.specs.Shown.{Rebuilds};
+ghost use Rattle.next_ropes.specs.Ready.{IsReady};
+ghost use Rattle.next_ropes.specs.Copies.{IsAlike};
+
+use crate::NextRope;
+use recovery::Parts;
+use std::alloc::Global;
+use voice_blocks::Owner;
+use voice_units::{NoMemory, Shape};
+
+/// The rope comes. It takes no memory.
+pub fn perform(parts: &mut Parts, shape: &Shape, next: NextRope)
+    requires { (b : Rebuilt) × (c : Change) × IsReady parts.old b next c }
+    ensures { (b : Rebuilt) (c : Change) → IsReady parts.old b next c → b.shape ≡ shape.now → Rebuilds parts.new (acted b c) }
+{
+    parts.add_rope(next.id, next.pieces, shape.graces.common);
+}
+
+/// The rope does not come, and its blocks are free again. It takes no memory.
+pub fn give_back(parts: &mut Parts, next: NextRope)
+    ensures { (b : Rebuilt) (c : Change) → IsReady parts.old b next c → Rebuilds parts.new b }
+{
+    parts.blocks.drop_owner(Owner::File(next.id));
+}
+
+/// A copy of the tables with room for one more rope and so many blocks that nothing uses yet.
+fn copy_with_room(parts: &Parts, blocks: u32) -> Result<Parts, NoMemory>
+    ensures alike { IfOk result (λ copy. IsAlike parts.now copy) }
+    ensures spare_ropes { IfOk result (λ copy. 1 ≤ copy.ropes.spare_ropes) }
+    ensures spare_pairs { IfOk result (λ copy. blocks ≤ copy.ropes.spare_pairs) }
+{
+    let mut ropes = parts.ropes.copy()?;
+    ropes.reserve(blocks)?;
+    Ok(Parts {
+        ropes,
+        interests: parts.interests.copy()?,
+        blocks: parts.blocks.copy()?,
+        moment: parts.moment,
+        next: parts.next,
+        form: parts.form,
+    })
+}
+
+/// How many blocks the rope brings.
+fn new_blocks(next: &NextRope) -> u32
+    requires { next.now.recorded ≡ true → length next.now.addresses.items < 2 ^ 32 }
+    ensures { result ≡ (if next.now.recorded then length next.now.addresses.items else 0) }
+{
+    if next.recorded {
+        next.addresses.len() as u32
+    } else {
+        0
+    }
+}
+
+/// The tables after the rope has come; these stay as they are. It goes over all tables.
+pub fn parts_after(
+    alloc: Global,
+    parts: &Parts,
+    shape: &Shape,
+    next: &NextRope,
+) -> Result<Parts, NoMemory>
+    requires { (b : Rebuilt) × (c : Change) × IsReady parts.now b next.now c }
+    ensures { (b : Rebuilt) (c : Change) → IsReady parts.now b next.now c → b.shape ≡ shape.now → IfOk result (λ after. Rebuilds after (acted b c)) }
+{
+    let pieces = next.pieces.copy()?;
+    let mut after = copy_with_room(parts, new_blocks(next))?;
+    after.add_rope(next.id, pieces, shape.graces.common);
+    Ok(after)
+}
