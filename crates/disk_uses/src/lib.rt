@@ -1,4 +1,4 @@
-//! Tests of the journal and of blocks over disks in memory, disks that stop, and a file.
+//! Tests of the journal, of blocks and of recordings over disks in memory, disks that stop, and a file.
 #![tactic(auto)]
 
 #[cfg(test)]
@@ -11,6 +11,8 @@ mod damage;
 mod files;
 #[cfg(test)]
 mod formatting;
+#[cfg(test)]
+mod recordings;
 #[cfg(test)]
 mod steps;
 #[cfg(test)]

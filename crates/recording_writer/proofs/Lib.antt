@@ -1,0 +1,4 @@
+pub mod Counted
+pub mod Writes
+pub mod Stages
+pub mod Whole
