@@ -5,10 +5,11 @@ trap 'rm -rf "$work"' EXIT
 passed=0
 failed=0
 
-# check NAME STATUS STDOUT STDERR WORD..: the program, run in $work on these words, ends so.
+# check NAME STATUS STDOUT STDERR WORD..: the program, run in $work on these words over a disk file that it makes anew, ends so.
 check() {
     name=$1 want_status=$2 want_out=$3 want_err=$4
     shift 4
+    rm -rf "$work/voice.disk"
     status=0
     (cd "$work" && "$top/voice" "$@") >"$work/.out" 2>"$work/.err" || status=$?
     printf '%s' "$want_out" >"$work/.want_out"

@@ -15,7 +15,7 @@ use Rattle.script_lang.specs.Samples.{place_of}
 use Rattle.script_lang.specs.Parts.{empty_script, mention, line_of, with_line}
 use Rattle.script_lang.specs.Reading.{read_lines, Parses}
 use Rattle.script_lang.specs.Grammar.{Spells, Adds, IsSpoken, Fits, IsSample}
-use Rattle.script_lang.specs.Errands.{HasTape}
+use Rattle.script_lang.specs.Errands.{HasTape, HasItsRopes}
 use Rattle.script_lang.specs.Whole.{IsLineOf, IsWhole}
 use Rattle.script_lang.proofs.Steps.{lines_found}
 use Rattle.script_lang.proofs.Names.{mention_grows}
@@ -97,6 +97,29 @@ has_tape names (verbs.Add lane tape) file sample f = sample_within names tape sa
 has_tape names (verbs.End lane) file sample f = tt
 has_tape names (verbs.Levels rope) file sample f = tt
 
+-- a concat has 1 to 16 ropes
+has_ropes : (names : List (List ℕ)) (verb : Verb) (file sample : Option (List ℕ)) → Fits names verb file sample → HasItsRopes verb
+has_ropes names (verbs.Record tape) file sample f = tt
+has_ropes names (verbs.Concat args) file sample f = (f.2, f.3)
+has_ropes names (verbs.Sub rope start len) file sample f = tt
+has_ropes names (verbs.Replace rope start len with) file sample f = tt
+has_ropes names (verbs.Length rope) file sample f = tt
+has_ropes names (verbs.Retain class key rope note) file sample f = tt
+has_ropes names (verbs.Forget class key) file sample f = tt
+has_ropes names (verbs.Lookup class key) file sample f = tt
+has_ropes names (verbs.Census keys) file sample f = tt
+has_ropes names (verbs.Advance moment) file sample f = tt
+has_ropes names (verbs.Sweep limit) file sample f = tt
+has_ropes names (verbs.Describe rope) file sample f = tt
+has_ropes names (verbs.Queue lane rope start len) file sample f = tt
+has_ropes names (verbs.Play lane rope start len) file sample f = tt
+has_ropes names (verbs.Serve lane) file sample f = tt
+has_ropes names (verbs.Stop lane) file sample f = tt
+has_ropes names (verbs.Begin lane) file sample f = tt
+has_ropes names (verbs.Add lane tape) file sample f = tt
+has_ropes names (verbs.End lane) file sample f = tt
+has_ropes names (verbs.Levels rope) file sample f = tt
+
 -- the script up to line n
 pub record UpTo (known : VerbName → Bool) (n : ℕ) (r : Reading) : Type 0 where
   pub whole : IsWhole known r
@@ -109,6 +132,7 @@ line_kept known s c t d line p q h = record {
   most = omega (arith, h.most);
   verb = h.verb;
   tape = tape_more line.verb s t p h.tape;
+  ropes = h.ropes;
 }
 
 adds_whole : (known : VerbName → Bool) (n : ℕ) (r : Reading) (s : Spoken) → n ≤ 65535 → IsSpoken known r.samples s → UpTo known n r → UpTo known (n + 1) (with_line n r s)
@@ -124,6 +148,7 @@ adds_whole known n r s few is h =
       most = omega arith;
       verb = is.taken;
       tape = has_tape r.samples s.said.verb s.said.file s.said.sample is.fits;
+      ropes = has_ropes r.samples s.said.verb s.said.file s.said.sample is.fits;
     } in
     let whole : IsWhole known (with_line n r s) = record {
       lines = All-append (IsLineOf known long top) r.lines (line_of n s ∷ []) old (All-cons (IsLineOf known long top) (line_of n s) [] new (All-nil (IsLineOf known long top)));

@@ -1,8 +1,12 @@
 -- What a line asks for, as the variables of its caller stand.
 --     asked tapes verb variables      the call of a line with that verb, none where it only serves a lane
 --     errand_of tapes line      a line as its caller's entries follow it
+--     HasTape count verb      the tape that a line names, if it names one, is one of so many
+--     HasItsRopes verb      a concat has 1 to 16 ropes
 --     SameValues a b      each variable stands for the same rope in both
-use Rattle.std.specs.Prelude.{ℕ, List, ◌≡◌, ◌<◌, IsTrue, Option, Some, None, map}
+--     IsBuiltAlike name call      a verb is built where its call is
+--     IsAskedOf call      a caller may ask the call
+use Rattle.std.specs.Prelude.{ℕ, List, ◌≡◌, ◌≤◌, ◌<◌, IsTrue, Option, Some, None, map, length}
 use Rattle.voice_model.specs.declared.calls.Call.{Call}
 use Rattle.voice_model.specs.declared.calls.Call.TheVariants as calls
 use Rattle.voice_model.specs.Tapes.{whole_of}
@@ -50,6 +54,11 @@ abbrev pub HasTape : ℕ → Verb → Type 0
 HasTape count (verbs.Record tape) = tape < count
 HasTape count (verbs.Add lane tape) = tape < count
 HasTape count _ = Unit {0}
+
+-- a concat has 1 to 16 ropes
+abbrev pub HasItsRopes : Verb → Type 0
+HasItsRopes (verbs.Concat args) = (1 ≤ length args) × (length args ≤ 16)
+HasItsRopes _ = Unit {0}
 
 -- a line as its caller's entries follow it
 abbrev pub errand_of : List (List ℕ) → Line → Errand

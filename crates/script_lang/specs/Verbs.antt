@@ -45,6 +45,10 @@ binds _ = false
 -- the store can do the verb's call yet: when a call is built, its verb gets a line here and in `VerbName::is_built`
 abbrev pub is_built_verb : VerbName → Bool
 is_built_verb names.Record = true
+is_built_verb names.Concat = true
+is_built_verb names.Sub = true
+is_built_verb names.Replace = true
+is_built_verb names.Length = true
 is_built_verb _ = false
 
 -- the verbs that a script may have: those that are built, or all

@@ -104,8 +104,10 @@ fn what_is_taken(rt: HostRuntime) {
         let found = bad(&rt, bytes);
         assert!(rt; found == None, "script {k}: {found:?}");
     }
-    let now = refused(parse(rt.alloc(), b"1 a = record f\n# x\n1 length a"));
-    assert!(rt; now == Some((3, Cause::Verb)), "{now:?}");
+    let now =
+        b"1 a = record f\n1 b = sub a 0 1\n1 c = replace a 0 1 b\n2 concat 1 2\n1 length c\n# x\n1 levels a";
+    let now = refused(parse(rt.alloc(), now));
+    assert!(rt; now == Some((7, Cause::Verb)), "{now:?}");
 }
 
 fn repeated(rt: &HostRuntime, front: &[u8], part: &[u8], count: usize, end: &[u8]) -> Vec<u8> {

@@ -108,7 +108,14 @@ impl VerbName {
     pub fn is_built(self) -> bool
         ensures { result ≡ is_built_verb self }
     {
-        matches!(self, VerbName::Record)
+        matches!(
+            self,
+            VerbName::Record
+                | VerbName::Concat
+                | VerbName::Sub
+                | VerbName::Replace
+                | VerbName::Length
+        )
     }
 }
 

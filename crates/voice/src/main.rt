@@ -2,13 +2,16 @@
 #![tactic(auto)]
 
 mod arguments;
+mod disk_file;
 mod help;
 
 use arguments::words;
+use disk_file::open;
 use help::{HELP, VERSION};
+use std::alloc::AllocError;
 use std::process::ExitCode;
 use voice_main::{Status, run};
-use voice_outside::{FolderShelf, NoDisk, OpenGate, StdSink};
+use voice_outside::{FolderShelf, OpenGate, StdSink};
 
 // Tells how the run ended on standard error, unless it is done, and by the exit status.
 fn exit(rt: &impl Eprint, status: Status) -> ExitCode {
@@ -27,6 +30,13 @@ fn tell(rt: &(impl Print + Eprint), text: &str) -> ExitCode {
     }
 }
 
+// The word `format` alone.
+fn format_words<R: AllocGlobal>(rt: &R) -> Result<Vec<String>, AllocError> {
+    let mut words = Vec::new(rt.alloc());
+    words.push(String::from_str(rt.alloc(), "format")?)?;
+    Ok(words)
+}
+
 fn main(rt: HostRuntime) -> ExitCode {
     let Ok(words) = words(&rt) else {
         return exit(&rt, Status::NoMemory);
@@ -38,15 +48,38 @@ fn main(rt: HostRuntime) -> ExitCode {
             _ => {}
         }
     }
+    let (mut disk, is_new) = match open(&rt) {
+        Ok(pair) => pair,
+        Err(status) => return exit(&rt, status),
+    };
     let mut shelf = FolderShelf::new(&rt);
     let mut out = StdSink::new(&rt);
+    // A disk that was just made is formatted with the defaults; one that was there is never formatted but by the user's word.
+    if is_new {
+        let Ok(format) = format_words(&rt) else {
+            return exit(&rt, Status::NoMemory);
+        };
+        let ended = run(
+            &rt,
+            rt.alloc(),
+            &format,
+            &mut shelf,
+            &mut out,
+            disk,
+            &OpenGate,
+        );
+        if ended.status != Status::Done {
+            return exit(&rt, ended.status);
+        }
+        disk = ended.disk;
+    }
     let ended = run(
         &rt,
         rt.alloc(),
         &words,
         &mut shelf,
         &mut out,
-        NoDisk::new(),
+        disk,
         &OpenGate,
     );
     exit(&rt, ended.status)

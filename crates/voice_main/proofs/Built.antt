@@ -1,74 +1,101 @@
 -- What a line with a verb that is built asks for.
-use Rattle.std.proofs.Common.{◌≡◌, ℕ, zero, suc, ◌<◌, List, [], ◌∷◌, length, get_or, true, false, Some, None, refl, arith, sym, subst, ap, ◌∙◌}
-use Rattle.std.specs.Prelude.{IsTrue, All}
-use Rattle.std.proofs.lemmas.List.Elements.{All-head, All-tail}
+use Rattle.std.proofs.Common.{◌≡◌, ℕ, ◌<◌, List, length, map, true, false, Some, None, refl, arith, subst}
+use Rattle.std.specs.Prelude.{IsTrue}
+use Rattle.std.proofs.lemmas.List.{length-map}
 use Rattle.voice_model.specs.declared.calls.Call.{Call}
 use Rattle.voice_model.specs.declared.calls.Call.TheVariants as calls
 use Rattle.voice_model.specs.Tapes.{whole_of, HasTake}
-use Rattle.voice_store.specs.Recording.{TakesAreIn}
-use Rattle.script_lang.specs.declared.scripts.Line.{Line}
-use Rattle.script_lang.specs.Errands.{asked, HasTape}
-use Rattle.script_lang.specs.Whole.{IsLineOf}
+use Rattle.voice_model.specs.Follows.{Binding}
+use Rattle.voice_store.specs.Facts.{TakesAreIn, HasRopes, is_built}
 use Rattle.script_lang.specs.declared.scripts.Verb.{Verb}
 use Rattle.script_lang.specs.declared.scripts.Verb.TheVariants as verbs
+use Rattle.script_lang.specs.Errands.{asked, meant, HasTape, HasItsRopes}
+use Rattle.script_lang.specs.Parts.{served}
 use Rattle.script_lang.specs.Verbs.{is_built_verb}
 use Rattle.script_lang.specs.Grammar.{verb_name}
-
--- the verb records
-abbrev pub IsRecord : Verb → Type 0
-IsRecord verb = (tape : ℕ) × (verb ≡ verbs.Record tape)
+use Rattle.voice_main.specs.Ordered.{is_landing}
 
 no : false ≡ true → ⊥
 no e = cc
 
-pub built_records : (verb : Verb) → IsTrue (is_built_verb (verb_name verb)) → IsRecord verb
-built_records (verbs.Record tape) h = (tape, refl)
-built_records (verbs.Concat args) h = absurd (no h)
-built_records (verbs.Sub rope start len) h = absurd (no h)
-built_records (verbs.Replace rope start len with) h = absurd (no h)
-built_records (verbs.Length rope) h = absurd (no h)
-built_records (verbs.Retain class key rope note) h = absurd (no h)
-built_records (verbs.Forget class key) h = absurd (no h)
-built_records (verbs.Lookup class key) h = absurd (no h)
-built_records (verbs.Census keys) h = absurd (no h)
-built_records (verbs.Advance moment) h = absurd (no h)
-built_records (verbs.Sweep limit) h = absurd (no h)
-built_records (verbs.Describe rope) h = absurd (no h)
-built_records (verbs.Queue lane rope start len) h = absurd (no h)
-built_records (verbs.Play lane rope start len) h = absurd (no h)
-built_records (verbs.Serve lane) h = absurd (no h)
-built_records (verbs.Stop lane) h = absurd (no h)
-built_records (verbs.Begin lane) h = absurd (no h)
-built_records (verbs.Add lane tape) h = absurd (no h)
-built_records (verbs.End lane) h = absurd (no h)
-built_records (verbs.Levels rope) h = absurd (no h)
+-- a call that a line asks, of a verb that is built
+pub record IsAsked (tapes : List (List ℕ)) (verb : Verb) (b : List Binding) (call : Call) : Type 0 where
+  pub built : IsTrue (is_built call)
+  pub lasts : is_landing call ≡ false
+  pub takes : HasTape (length tapes) verb → TakesAreIn tapes call
+  pub ropes : HasItsRopes verb → HasRopes call
 
--- the call of a line that records
-pub record_call : (tapes : List (List ℕ)) (verb : Verb) (tape : ℕ) (call : Call) → verb ≡ verbs.Record tape → Some call ≡ asked tapes verb [] → call ≡ calls.Record (whole_of tapes tape)
-record_call tapes verb tape call is same =
-    let made : Some call ≡ Some (calls.Record (whole_of tapes tape)) = same ∙ ap (λ v. asked tapes v []) is in cc
-
--- such a line makes a call
-pub asks_something : (tapes : List (List ℕ)) (verb : Verb) → IsRecord verb → asked tapes verb [] ≡ None → ⊥
-asks_something tapes verb r none =
-    let made : Some (calls.Record (whole_of tapes r.0)) ≡ None = sym (ap (λ v. asked tapes v []) r.1) ∙ none in cc
+is_asked_by : (tapes : List (List ℕ)) (verb : Verb) (b : List Binding) (call made : Call) → Some call ≡ Some made → IsAsked tapes verb b made → IsAsked tapes verb b call
+is_asked_by tapes verb b call made same h = let e : made ≡ call = cc in subst (IsAsked tapes verb b) e h
 
 -- a whole tape lies in the tapes
 has_whole : (tapes : List (List ℕ)) (tape : ℕ) → tape < length tapes → HasTake tapes (whole_of tapes tape)
 has_whole tapes tape there = record { exists = there; within = omega arith }
 
-tape_there : (n tape : ℕ) (verb : Verb) → verb ≡ verbs.Record tape → HasTape n verb → tape < n
-tape_there n tape verb is h = let P : Verb → Type 0 = λ v. HasTape n v in subst P is h
+pub asked_well : (tapes : List (List ℕ)) (verb : Verb) (b : List Binding) (call : Call) → IsTrue (is_built_verb (verb_name verb)) → Some call ≡ asked tapes verb b → IsAsked tapes verb b call
+asked_well tapes (verbs.Record tape) b call h same = is_asked_by tapes (verbs.Record tape) b call (calls.Record (whole_of tapes tape)) same (record { built = refl; lasts = refl; takes = has_whole tapes tape; ropes = λ _. tt })
+asked_well tapes (verbs.Concat args) b call h same = is_asked_by tapes (verbs.Concat args) b call (calls.Concat (map (meant b) args)) same (record { built = refl; lasts = refl; takes = λ _. tt; ropes = λ h. (omega (arith, h.0, length-map args (meant b)), omega (arith, h.1, length-map args (meant b))) })
+asked_well tapes (verbs.Sub rope start len) b call h same = is_asked_by tapes (verbs.Sub rope start len) b call (calls.Sub (meant b rope) start len) same (record { built = refl; lasts = refl; takes = λ _. tt; ropes = λ _. tt })
+asked_well tapes (verbs.Replace rope start len with) b call h same = is_asked_by tapes (verbs.Replace rope start len with) b call (calls.Replace (meant b rope) start len (meant b with)) same (record { built = refl; lasts = refl; takes = λ _. tt; ropes = λ _. tt })
+asked_well tapes (verbs.Length rope) b call h same = is_asked_by tapes (verbs.Length rope) b call (calls.Length (meant b rope)) same (record { built = refl; lasts = refl; takes = λ _. tt; ropes = λ _. tt })
+asked_well tapes (verbs.Retain class key rope note) b call h same = absurd (no h)
+asked_well tapes (verbs.Forget class key) b call h same = absurd (no h)
+asked_well tapes (verbs.Lookup class key) b call h same = absurd (no h)
+asked_well tapes (verbs.Census keys) b call h same = absurd (no h)
+asked_well tapes (verbs.Advance moment) b call h same = absurd (no h)
+asked_well tapes (verbs.Sweep limit) b call h same = absurd (no h)
+asked_well tapes (verbs.Describe rope) b call h same = absurd (no h)
+asked_well tapes (verbs.Queue lane rope start len) b call h same = absurd (no h)
+asked_well tapes (verbs.Play lane rope start len) b call h same = absurd (no h)
+asked_well tapes (verbs.Serve lane) b call h same = absurd (no h)
+asked_well tapes (verbs.Stop lane) b call h same = absurd (no h)
+asked_well tapes (verbs.Begin lane) b call h same = absurd (no h)
+asked_well tapes (verbs.Add lane tape) b call h same = absurd (no h)
+asked_well tapes (verbs.End lane) b call h same = absurd (no h)
+asked_well tapes (verbs.Levels rope) b call h same = absurd (no h)
 
--- what a line that records takes lies in the tapes
-pub takes : (tapes : List (List ℕ)) (n : ℕ) (verb : Verb) (call : Call) → IsRecord verb → Some call ≡ asked tapes verb [] → HasTape n verb → length tapes ≡ n → TakesAreIn tapes call
-takes tapes n verb call r same tape count =
-    let there : r.0 < length tapes = omega (arith, tape_there n r.0 verb r.1 tape, count) in
-    let P : Call → Type 0 = λ c. TakesAreIn tapes c in
-    subst P (sym (record_call tapes verb r.0 call r.1 same)) (has_whole tapes r.0 there)
+-- such a line makes a call
+pub asks_something : (tapes : List (List ℕ)) (verb : Verb) (b : List Binding) → IsTrue (is_built_verb (verb_name verb)) → asked tapes verb b ≡ None → ⊥
+asks_something tapes (verbs.Record tape) b h none = cc
+asks_something tapes (verbs.Concat args) b h none = cc
+asks_something tapes (verbs.Sub rope start len) b h none = cc
+asks_something tapes (verbs.Replace rope start len with) b h none = cc
+asks_something tapes (verbs.Length rope) b h none = cc
+asks_something tapes (verbs.Retain class key rope note) b h none = no h
+asks_something tapes (verbs.Forget class key) b h none = no h
+asks_something tapes (verbs.Lookup class key) b h none = no h
+asks_something tapes (verbs.Census keys) b h none = no h
+asks_something tapes (verbs.Advance moment) b h none = no h
+asks_something tapes (verbs.Sweep limit) b h none = no h
+asks_something tapes (verbs.Describe rope) b h none = no h
+asks_something tapes (verbs.Queue lane rope start len) b h none = no h
+asks_something tapes (verbs.Play lane rope start len) b h none = no h
+asks_something tapes (verbs.Serve lane) b h none = no h
+asks_something tapes (verbs.Stop lane) b h none = no h
+asks_something tapes (verbs.Begin lane) b h none = no h
+asks_something tapes (verbs.Add lane tape) b h none = no h
+asks_something tapes (verbs.End lane) b h none = no h
+asks_something tapes (verbs.Levels rope) b h none = no h
 
--- the facts of the line at a place
-pub line_at : (n callers : ℕ) (lines : List Line) (i : ℕ) (line : Line) → All (IsLineOf is_built_verb n callers) lines → i < length lines → line ≡ get_or lines i line → IsLineOf is_built_verb n callers line
-line_at n callers [] i line h within is = absurd (omega arith)
-line_at n callers (l ∷ ls) zero line h within is = subst (IsLineOf is_built_verb n callers) (sym is) (All-head (IsLineOf is_built_verb n callers) l ls h)
-line_at n callers (l ∷ ls) (suc i) line h within is = line_at n callers ls i line (All-tail (IsLineOf is_built_verb n callers) l ls h) (omega arith) is
+-- and serves no lane
+pub serves_none : (verb : Verb) → IsTrue (is_built_verb (verb_name verb)) → served verb ≡ None
+serves_none (verbs.Record tape) h = refl
+serves_none (verbs.Concat args) h = refl
+serves_none (verbs.Sub rope start len) h = refl
+serves_none (verbs.Replace rope start len with) h = refl
+serves_none (verbs.Length rope) h = refl
+serves_none (verbs.Retain class key rope note) h = absurd (no h)
+serves_none (verbs.Forget class key) h = absurd (no h)
+serves_none (verbs.Lookup class key) h = absurd (no h)
+serves_none (verbs.Census keys) h = absurd (no h)
+serves_none (verbs.Advance moment) h = absurd (no h)
+serves_none (verbs.Sweep limit) h = absurd (no h)
+serves_none (verbs.Describe rope) h = absurd (no h)
+serves_none (verbs.Queue lane rope start len) h = absurd (no h)
+serves_none (verbs.Play lane rope start len) h = absurd (no h)
+serves_none (verbs.Serve lane) h = absurd (no h)
+serves_none (verbs.Stop lane) h = absurd (no h)
+serves_none (verbs.Begin lane) h = absurd (no h)
+serves_none (verbs.Add lane tape) h = absurd (no h)
+serves_none (verbs.End lane) h = absurd (no h)
+serves_none (verbs.Levels rope) h = absurd (no h)

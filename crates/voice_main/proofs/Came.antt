@@ -1,34 +1,137 @@
--- Why a run that got as far as its calls ended.
-use Rattle.std.proofs.Common.{◌≡◌, ℕ, inr, List, length, Some, None, Option, refl}
-use Rattle.std.specs.Prelude.{IfSome}
+-- What a run that got as far as its calls leaves, and why it ended.
+use Rattle.std.proofs.Common.{◌≡◌, ◌⊎◌, ℕ, inl, inr, List, [], length, take, Some, None, Option, Result, Ok, Err, true, arith, refl, sym, subst}
+use Rattle.std.specs.Prelude.{IfSome, IsTrue, OnOk}
+use Rattle.std.specs.Result.{is_ok}
+use Rattle.std.proofs.lemmas.List.{take_all}
+use Rattle.std.specs.Arc.{arc_value}
 use Rattle.voice_model.specs.declared.calls.Entry.{Entry}
+use Rattle.voice_model.specs.State.{State}
+use Rattle.voice_model.specs.Image.{opened_from}
+use Rattle.voice_outside.specs.Disk.{Told}
 use Rattle.voice_outside.specs.Files.{Files}
+use Rattle.voice_store.specs.declared.inside.Inside.{Inside}
+use Rattle.voice_store.specs.Shown.{Stands}
+use Rattle.script_lang.specs.declared.scripts.Line.{Line}
 use Rattle.script_lang.specs.Shown.{Reading}
 use Rattle.voice_main.specs.declared.status.Status.{Status}
-use Rattle.voice_main.specs.declared.status.Status.TheVariants.{Done, Usage, BadScript, NoFile, ShelfFault, SinkFault, NoMemory}
-use Rattle.voice_main.specs.Ran.{IsReady, Serial, Ran, RanWhole, Performs, Comes, SoFar}
+use Rattle.voice_main.specs.declared.status.Status.TheVariants.{Done, Usage, BadShape, BadScript, NoFile, ShelfFault, SinkFault, BadDisk, DiskFault, NoMemory}
+use Rattle.voice_main.specs.Ordered.{InOrder, asked_entries, unset}
+use Rattle.voice_main.specs.Ran.{IsReady, IsThere, Performed, Ran, RanWhole, SoFar}
+use Rattle.voice_main.specs.Statuses.{Performs, Prints, Opens, RunComes, IsSilent}
+use Rattle.voice_main.proofs.Followed.{each_follows}
 
-both_of : (words : List (List ℕ)) (told : Option Files) (script : Reading) (tapes : List (List ℕ)) (history : List Entry) → IfSome told (λ files. IsReady words files script tapes) → Serial tapes script.lines (length script.lines) history →
-    IfSome told (λ files. RanWhole words files history)
-both_of words None script tapes history ready serial = tt
-both_of words (Some files) script tapes history ready serial = record { script = script; tapes = tapes; ready = ready; serial = serial }
+-- the history of a store that stands
+performed_inside : (first : State) (origin disk : Told) (inside : Inside) (lines : List Line) (k : ℕ) → Stands first origin disk inside → (IsTrue origin.honest → opened_from origin.bytes ≡ Some first)
+    → InOrder (arc_value inside.tapes) unset (take k lines) (asked_entries inside.history.items) → Performed (arc_value inside.tapes) lines k origin disk inside.history.items
+performed_inside first origin disk inside lines k stands opened order = record {
+  first = first;
+  serial = record {
+    legal = stands.stood.upright.legal;
+    order = order;
+    each = each_follows first (arc_value inside.tapes) (take k lines) inside.history.items stands.stood.upright.legal order;
+  };
+  disk = record {
+    opened = opened;
+    held = λ honest. (stands.stood.upright.held (subst IsTrue (sym stands.honest) honest)).held;
+    acks = stands.stood.upright.acks;
+    faults = stands.faults;
+  };
+}
 
-pub comes_ready : (words : List (List ℕ)) (told : Option Files) (shelf sink : Type 0) (script : Reading) (tapes : List (List ℕ)) (history : List Entry) (status : Status) →
-    IfSome told (λ files. IsReady words files script tapes) → Performs sink status → (status ≡ Done → Serial tapes script.lines (length script.lines) history) → (status ≡ SinkFault → Serial tapes script.lines (length script.lines) history) →
-    Comes words told shelf sink history status
-comes_ready words told shelf sink script tapes history Done ready which done fault = both_of words told script tapes history ready (done refl)
-comes_ready words told shelf sink script tapes history SinkFault ready which done fault = (which, both_of words told script tapes history ready (fault refl))
-comes_ready words told shelf sink script tapes history NoMemory ready which done fault = tt
-comes_ready words told shelf sink script tapes history Usage ready which done fault = absurd which
-comes_ready words told shelf sink script tapes history (BadScript n) ready which done fault = absurd which
-comes_ready words told shelf sink script tapes history (NoFile name) ready which done fault = absurd which
-comes_ready words told shelf sink script tapes history ShelfFault ready which done fault = absurd which
+pub performed : (first : State) (origin disk : Told) (inside : Inside) (tapes : List (List ℕ)) (lines : List Line) (k : ℕ) (history : List Entry) → Stands first origin disk inside → (IsTrue origin.honest → opened_from origin.bytes ≡ Some first)
+    → inside.history.items ≡ history → arc_value inside.tapes ≡ tapes → InOrder tapes unset (take k lines) (asked_entries history) → Performed tapes lines k origin disk history
+performed first origin disk inside tapes lines k history stands opened same_history same_tapes order =
+    let there : InOrder (arc_value inside.tapes) unset (take k lines) (asked_entries inside.history.items) =
+    subst (λ t. InOrder t unset (take k lines) (asked_entries inside.history.items)) (sym same_tapes) (subst (λ h. InOrder tapes unset (take k lines) (asked_entries h)) (sym same_history) order) in
+    subst (λ h. Performed tapes lines k origin disk h) same_history (subst (λ t. Performed t lines k origin disk inside.history.items) same_tapes (performed_inside first origin disk inside lines k stands opened there))
 
-so_far_from : (words : List (List ℕ)) (told : Option Files) (script : Reading) (tapes : List (List ℕ)) (history : List Entry) → IfSome told (λ files. IsReady words files script tapes) → (k : ℕ) × Serial tapes script.lines k history →
-    IfSome told (λ files. (k : ℕ) × Ran words files k history)
-so_far_from words None script tapes history ready serial = tt
-so_far_from words (Some files) script tapes history ready serial = (serial.0, record { script = script; tapes = tapes; ready = ready; serial = serial.1 })
+-- ---- statuses
 
-pub so_far_ready : (words : List (List ℕ)) (told : Option Files) (script : Reading) (tapes : List (List ℕ)) (history : List Entry) → IfSome told (λ files. IsReady words files script tapes) → (k : ℕ) × Serial tapes script.lines k history →
-    SoFar words told history
-so_far_ready words told script tapes history ready serial = inr (so_far_from words told script tapes history ready serial)
+pub printed : (sink : Type 0) (old new : Told) (status : Status) → Prints sink status → Performs sink old new status
+printed sink old new Done h = tt
+printed sink old new SinkFault h = h
+printed sink old new NoMemory h = tt
+printed sink old new Usage h = absurd h
+printed sink old new BadShape h = absurd h
+printed sink old new (BadScript n) h = absurd h
+printed sink old new (NoFile name) h = absurd h
+printed sink old new ShelfFault h = absurd h
+printed sink old new (BadDisk place) h = absurd h
+printed sink old new DiskFault h = absurd h
+
+pub printed_aloud : (sink : Type 0) (status : Status) → Prints sink status → IsSilent status → ⊥
+printed_aloud sink Done h quiet = quiet
+printed_aloud sink SinkFault h quiet = quiet
+printed_aloud sink NoMemory h quiet = quiet
+printed_aloud sink Usage h quiet = h
+printed_aloud sink BadShape h quiet = h
+printed_aloud sink (BadScript n) h quiet = h
+printed_aloud sink (NoFile name) h quiet = h
+printed_aloud sink ShelfFault h quiet = h
+printed_aloud sink (BadDisk place) h quiet = h
+printed_aloud sink DiskFault h quiet = h
+
+pub stopped_opening : (sink : Type 0) (old new : Told) (status : Status) → Opens old new status → Performs sink old new status
+stopped_opening sink old new Done h = absurd h
+stopped_opening sink old new SinkFault h = absurd h
+stopped_opening sink old new NoMemory h = h
+stopped_opening sink old new Usage h = h
+stopped_opening sink old new BadShape h = h
+stopped_opening sink old new (BadScript n) h = h
+stopped_opening sink old new (NoFile name) h = h
+stopped_opening sink old new ShelfFault h = h
+stopped_opening sink old new (BadDisk place) h = h
+stopped_opening sink old new DiskFault h = h
+
+there_of : (words : List (List ℕ)) (told : Option Files) (script : Reading) (tapes : List (List ℕ)) → IfSome told (λ files. IsReady words files script tapes) → IfSome told (IsThere words)
+there_of words None script tapes ready = tt
+there_of words (Some files) script tapes ready = record { script = script; tapes = tapes; ready = ready }
+
+whole_of : (words : List (List ℕ)) (told : Option Files) (script : Reading) (tapes : List (List ℕ)) (old new : Told) (history : List Entry) → IfSome told (λ files. IsReady words files script tapes) → Performed tapes script.lines (length script.lines) old new history →
+    IfSome told (λ files. RanWhole words files old new history)
+whole_of words None script tapes old new history ready performed = tt
+whole_of words (Some files) script tapes old new history ready performed = record { script = script; tapes = tapes; ready = ready; performed = performed }
+
+pub comes_ready : (words : List (List ℕ)) (told : Option Files) (shelf sink : Type 0) (script : Reading) (tapes : List (List ℕ)) (old new : Told) (history : List Entry) (status : Status) →
+    IfSome told (λ files. IsReady words files script tapes) → Performs sink old new status → (status ≡ Done → Performed tapes script.lines (length script.lines) old new history) → (status ≡ SinkFault → Performed tapes script.lines (length script.lines) old new history) →
+    RunComes words told shelf sink old new history status
+comes_ready words told shelf sink script tapes old new history Done ready which done fault = whole_of words told script tapes old new history ready (done refl)
+comes_ready words told shelf sink script tapes old new history SinkFault ready which done fault = (which, whole_of words told script tapes old new history ready (fault refl))
+comes_ready words told shelf sink script tapes old new history NoMemory ready which done fault = tt
+comes_ready words told shelf sink script tapes old new history Usage ready which done fault = absurd which
+comes_ready words told shelf sink script tapes old new history BadShape ready which done fault = which
+comes_ready words told shelf sink script tapes old new history (BadScript n) ready which done fault = absurd which
+comes_ready words told shelf sink script tapes old new history (NoFile name) ready which done fault = absurd which
+comes_ready words told shelf sink script tapes old new history ShelfFault ready which done fault = absurd which
+comes_ready words told shelf sink script tapes old new history (BadDisk place) ready which done fault = (which, there_of words told script tapes ready)
+comes_ready words told shelf sink script tapes old new history DiskFault ready which done fault = (which, there_of words told script tapes ready)
+
+so_far_from : (words : List (List ℕ)) (told : Option Files) (script : Reading) (tapes : List (List ℕ)) (old new : Told) (history : List Entry) → IfSome told (λ files. IsReady words files script tapes) → (k : ℕ) × Performed tapes script.lines k old new history →
+    IfSome told (λ files. (k : ℕ) × Ran words files k old new history)
+so_far_from words None script tapes old new history ready performed = tt
+so_far_from words (Some files) script tapes old new history ready performed = (performed.0, record { script = script; tapes = tapes; ready = ready; performed = performed.1 })
+
+pub so_far_ready : (words : List (List ℕ)) (told : Option Files) (script : Reading) (tapes : List (List ℕ)) (old new : Told) (history : List Entry) → IfSome told (λ files. IsReady words files script tapes)
+    → (history ≡ []) ⊎ ((k : ℕ) × Performed tapes script.lines k old new history) → SoFar words told old new history
+so_far_ready words told script tapes old new history ready (inl none) = inl none
+so_far_ready words told script tapes old new history ready (inr performed) = inr (so_far_from words told script tapes old new history ready performed)
+
+-- ---- the calls of a script
+
+-- what the store's calls left, as it was closed
+pub ended : {D : Type 0} (told : D → Told) (first : State) (entry origin final out : D) (inside : Inside) (lent tapes : List (List ℕ)) (lines : List Line) (k : ℕ) (shown history : List Entry)
+    → origin ≡ entry → out ≡ final → Stands first (told origin) (told final) inside → (IsTrue (told entry).honest → opened_from (told entry).bytes ≡ Some first)
+    → inside.history.items ≡ shown → history ≡ shown → arc_value inside.tapes ≡ tapes → lent ≡ tapes → InOrder lent unset (take k lines) (asked_entries shown) → Performed tapes lines k (told entry) (told out) history
+ended told first entry origin final out inside lent tapes lines k shown history origin_is out_is stands opened inside_history same_history inside_tapes same_tapes order =
+    let from_entry = subst (λ d. Stands first (told d) (told final) inside) origin_is stands in
+    let to_out = subst (λ d. Stands first (told entry) (told d) inside) (sym out_is) from_entry in
+    let ordered = subst (λ t. InOrder t unset (take k lines) (asked_entries shown)) same_tapes order in
+    subst (λ h. Performed tapes lines k (told entry) (told out) h) (sym same_history) (performed first (told entry) (told out) inside tapes lines k shown to_out opened inside_history inside_tapes ordered)
+
+pub at_ok : {T E P : Type 0} (r : Result T E) → is_ok r ≡ true → OnOk r P → P
+at_ok (Ok x) fine h = h
+at_ok (Err e) fine h = cc
+
+-- all the lines
+pub all_lines : (tapes : List (List ℕ)) (lines : List Line) (entries : List Entry) → InOrder tapes unset lines entries → InOrder tapes unset (take (length lines) lines) entries
+all_lines tapes lines entries h = subst (λ l. InOrder tapes unset l entries) (sym (take_all (length lines) lines (omega arith))) h

@@ -1,18 +1,25 @@
 -- The statuses that words and files decide exclude one another.
-use Rattle.std.proofs.Common.{◌≡◌, ℕ, ◌⊎◌, inl, inr, List, [], ◌∷◌, ◌++◌, map, Some, None, Option, sym, refl, ap, subst, ◌∙◌}
-use Rattle.std.specs.Prelude.{codes, IfSome}
+use Rattle.std.proofs.Common.{◌≡◌, ℕ, zero, suc, ◌⊎◌, ◌<◌, ◌≤◌, ◌-◌, ◌^◌, ◌+◌, inl, inr, List, [], ◌∷◌, ◌++◌, map, Some, None, Option, sym, refl, ap, subst, ◌∙◌, arith}
+use Rattle.std.specs.Prelude.{codes, IfSome, IsTrue, count_by}
 use Rattle.std.specs.FinMap.{get}
 use Rattle.voice_model.specs.declared.calls.Entry.{Entry}
+use Rattle.voice_outside.specs.Counters.{HasRisen}
+use Rattle.voice_outside.specs.Disk.{Told}
 use Rattle.voice_outside.specs.Files.{Files}
+use Rattle.voice_model.specs.Image as image
+use Rattle.voice_model.specs.State.{State}
+use Rattle.voice_store.specs.Stood.{is_fault}
 use Rattle.voice_main.specs.declared.status.Status.{Status}
-use Rattle.voice_main.specs.declared.status.Status.TheVariants.{Done, Usage, BadScript, NoFile, ShelfFault, SinkFault, NoMemory}
+use Rattle.voice_main.specs.declared.status.Status.TheVariants.{Done, Usage, BadShape, BadScript, NoFile, ShelfFault, SinkFault, BadDisk, DiskFault, NoMemory}
 use Rattle.script_lang.specs.Shown.{Reading}
 use Rattle.script_lang.specs.Verbs.{is_built_verb}
 use Rattle.script_lang.specs.Grammar.{IsScript}
 use Rattle.script_lang.specs.Causes.{FirstBad}
-use Rattle.voice_main.specs.Words.{IsRun, IsRefused}
+use Rattle.voice_main.specs.declared.options.FormatNumbers.{FormatNumbers}
+use Rattle.voice_main.specs.Words.{IsRun, IsFormat, IsRefused}
 use Rattle.voice_main.specs.Load.{AreFiles, FirstAbsent}
-use Rattle.voice_main.specs.Ran.{IsReady, IsBadScript, IsNoFile, IsExact, Comes}
+use Rattle.voice_main.specs.Ran.{IsReady, IsThere, RanWhole, SoFar}
+use Rattle.voice_main.specs.Statuses.{IsBadScript, IsNoFile, IsRead, IsExact, IsComplete, NoFaults, Comes, RunComes}
 use Rattle.script_lang.proofs.Once.{one_script, script_not_bad, one_bad}
 
 same_name : (words : List (List ℕ)) (a b : List ℕ) → IsRun words a → IsRun words b → a ≡ b
@@ -104,59 +111,140 @@ one_no_file words files x y a b =
     ]
 
 run_of_no_file : (words : List (List ℕ)) (files : Files) (x : List ℕ) → IsNoFile words files x → IsRefused words → ⊥
-run_of_no_file words files x a refused = refused a.name a.run
+run_of_no_file words files x a refused = refused.run a.name a.run
 
-pub exact : (words : List (List ℕ)) (files : Files) (shelf sink : Type 0) (history : List Entry) (status : Status) → Comes words (Some files) shelf sink history status → IsExact words files status
-exact words files shelf sink history Done h = record {
-  usage = λ refused. absurd (refused h.ready.name h.ready.run);
+-- ---- the disk
+
+one_place : (bytes : List ℕ) (a b : ℕ) → image.reading bytes ≡ image.Reading.Bad a → image.reading bytes ≡ image.Reading.Bad b → a ≡ b
+one_place bytes a b p q = let e : image.Reading.Bad a ≡ image.Reading.Bad b = sym p ∙ q in cc
+
+read_not_bad : (disk : Told) (place : ℕ) → IsRead disk → image.reading disk.bytes ≡ image.Reading.Bad place → ⊥
+read_not_bad disk place r bad = let e : image.Reading.Reads r.journal r.rebuilt ≡ image.Reading.Bad place = sym r.reads ∙ bad in cc
+
+opened_not_bad : (bytes : List ℕ) (first : State) (place : ℕ) → image.opened_from bytes ≡ Some first → image.reading bytes ≡ image.Reading.Bad place → ⊥
+opened_not_bad bytes first place opened bad = let e : Some first ≡ None = sym opened ∙ ap (image.opened_by bytes) bad in cc
+
+whole_not_bad : (words : List (List ℕ)) (files : Files) (old new : Told) (history : List Entry) (place : ℕ) → RanWhole words files old new history → IsTrue old.honest → image.reading old.bytes ≡ image.Reading.Bad place → ⊥
+whole_not_bad words files old new history place h honest bad = opened_not_bad old.bytes h.performed.first place (h.performed.disk.opened honest) bad
+
+exact : (words : List (List ℕ)) (files : Files) (shelf sink : Type 0) (old new : Told) (history : List Entry) (status : Status) → RunComes words (Some files) shelf sink old new history status → IsExact words files old status
+exact words files shelf sink old new history Done h = record {
+  usage = λ refused. absurd (refused.run h.ready.name h.ready.run);
   bad_script = λ n bad. absurd (ready_not_bad words files h.script h.tapes n h.ready bad);
   no_file = λ x gone. absurd (ready_not_absent words files h.script h.tapes x h.ready gone);
-  ready = λ _ _ _. inl refl;
+  bad_disk = λ place there honest bad. absurd (whole_not_bad words files old new history place h honest bad);
+  good_disk = λ there honest read. inr (inr (inl refl));
 }
-exact words files shelf sink history SinkFault h = record {
-  usage = λ refused. absurd (refused h.1.ready.name h.1.ready.run);
+exact words files shelf sink old new history SinkFault h = record {
+  usage = λ refused. absurd (refused.run h.1.ready.name h.1.ready.run);
   bad_script = λ n bad. absurd (ready_not_bad words files h.1.script h.1.tapes n h.1.ready bad);
   no_file = λ x gone. absurd (ready_not_absent words files h.1.script h.1.tapes x h.1.ready gone);
-  ready = λ _ _ _. inr (inl refl);
+  bad_disk = λ place there honest bad. absurd (whole_not_bad words files old new history place h.1 honest bad);
+  good_disk = λ there honest read. inl refl;
 }
-exact words files shelf sink history Usage h = record {
+exact words files shelf sink old new history (BadDisk p) h = record {
+  usage = λ refused. absurd (refused.run h.1.ready.name h.1.ready.run);
+  bad_script = λ n bad. absurd (ready_not_bad words files h.1.script h.1.tapes n h.1.ready bad);
+  no_file = λ x gone. absurd (ready_not_absent words files h.1.script h.1.tapes x h.1.ready gone);
+  bad_disk = λ place there honest bad. inr (inl (ap BadDisk (one_place old.bytes p place (h.0 honest) bad)));
+  good_disk = λ there honest read. absurd (read_not_bad old p read (h.0 honest));
+}
+exact words files shelf sink old new history DiskFault h = record {
+  usage = λ refused. absurd (refused.run h.1.ready.name h.1.ready.run);
+  bad_script = λ n bad. absurd (ready_not_bad words files h.1.script h.1.tapes n h.1.ready bad);
+  no_file = λ x gone. absurd (ready_not_absent words files h.1.script h.1.tapes x h.1.ready gone);
+  bad_disk = λ _ _ _ _. inl refl;
+  good_disk = λ _ _ _. inr (inl refl);
+}
+exact words files shelf sink old new history Usage h = record {
   usage = λ _. inl refl;
   bad_script = λ n bad. absurd (h bad.name bad.run);
   no_file = λ x gone. absurd (h gone.name gone.run);
-  ready = λ _ _ r. absurd (h r.name r.run);
+  bad_disk = λ place there honest bad. absurd (h there.ready.name there.ready.run);
+  good_disk = λ there honest read. absurd (h there.ready.name there.ready.run);
 }
-exact words files shelf sink history (BadScript m) h = record {
-  usage = λ refused. absurd (refused h.name h.run);
+exact words files shelf sink old new history BadShape h = record {
+  usage = absurd h;
+  bad_script = absurd h;
+  no_file = absurd h;
+  bad_disk = absurd h;
+  good_disk = absurd h;
+}
+exact words files shelf sink old new history (BadScript m) h = record {
+  usage = λ refused. absurd (refused.run h.name h.run);
   bad_script = λ n bad. inl (ap BadScript (one_bad_script words files m n h bad));
   no_file = λ x gone. absurd (bad_not_absent words files m x h gone);
-  ready = λ script tapes r. absurd (ready_not_bad words files script tapes m r h);
+  bad_disk = λ place there honest bad. absurd (ready_not_bad words files there.script there.tapes m there.ready h);
+  good_disk = λ there honest read. absurd (ready_not_bad words files there.script there.tapes m there.ready h);
 }
-exact words files shelf sink history (NoFile y) h = record {
-  usage = λ refused. absurd (refused h.name h.run);
+exact words files shelf sink old new history (NoFile y) h = record {
+  usage = λ refused. absurd (refused.run h.name h.run);
   bad_script = λ n bad. absurd (bad_not_absent words files n y bad h);
   no_file = λ x gone. inl (ap NoFile (one_no_file words files y x h gone));
-  ready = λ script tapes r. absurd (ready_not_absent words files script tapes y r h);
+  bad_disk = λ place there honest bad. absurd (ready_not_absent words files there.script there.tapes y there.ready h);
+  good_disk = λ there honest read. absurd (ready_not_absent words files there.script there.tapes y there.ready h);
 }
-exact words files shelf sink history ShelfFault h = record { usage = λ _. inr tt; bad_script = λ _ _. inr tt; no_file = λ _ _. inr tt; ready = λ _ _ _. inr (inr tt) }
-exact words files shelf sink history NoMemory h = record { usage = λ _. inr tt; bad_script = λ _ _. inr tt; no_file = λ _ _. inr tt; ready = λ _ _ _. inr (inr tt) }
+exact words files shelf sink old new history ShelfFault h = record {
+  usage = λ _. inr tt;
+  bad_script = λ _ _. inr tt;
+  no_file = λ _ _. inr tt;
+  bad_disk = λ _ _ _ _. inr (inr tt);
+  good_disk = λ _ _ _. inr (inr (inr tt));
+}
+exact words files shelf sink old new history NoMemory h = record {
+  usage = λ _. inr tt;
+  bad_script = λ _ _. inr tt;
+  no_file = λ _ _. inr tt;
+  bad_disk = λ _ _ _ _. inr (inr tt);
+  good_disk = λ _ _ _. inr (inr (inr tt));
+}
 
-pub exact_told : (words : List (List ℕ)) (told : Option Files) (shelf sink : Type 0) (history : List Entry) (status : Status) → Comes words told shelf sink history status →
-    IfSome told (λ files. IsExact words files status)
-exact_told words None shelf sink history status h = tt
-exact_told words (Some files) shelf sink history status h = exact words files shelf sink history status h
+-- a `run` is no `format`
+not_both : (words : List (List ℕ)) (name : List ℕ) (numbers : FormatNumbers) → IsRun words name → IsFormat words numbers → ⊥
+not_both words name numbers r f = let e : codes "run" ∷ name ∷ [] ≡ codes "format" ∷ f.options = sym r.form ∙ f.form in cc
 
--- where all is ready and no count rose, the run is done or memory was wanted
-pub complete : (words : List (List ℕ)) (files : Files) (shelf sink : Type 0) (history : List Entry) (status : Status) (script : Reading) (tapes : List (List ℕ)) → Comes words (Some files) shelf sink history status →
-    IsReady words files script tapes → (shelf → ⊥) → (sink → ⊥) → (status ≡ Done) ⊎ (status ≡ NoMemory)
-complete words files shelf sink history Done script tapes h r calm dry = inl refl
-complete words files shelf sink history NoMemory script tapes h r calm dry = inr refl
-complete words files shelf sink history SinkFault script tapes h r calm dry = absurd (dry h.0)
-complete words files shelf sink history ShelfFault script tapes h r calm dry = absurd (calm h)
-complete words files shelf sink history Usage script tapes h r calm dry = absurd (h r.name r.run)
-complete words files shelf sink history (BadScript n) script tapes h r calm dry = absurd (ready_not_bad words files script tapes n r h)
-complete words files shelf sink history (NoFile x) script tapes h r calm dry = absurd (ready_not_absent words files script tapes x r h)
+format_exact : (words : List (List ℕ)) (files : Files) (old : Told) (status : Status) (numbers : FormatNumbers) → IsFormat words numbers → IsExact words files old status
+format_exact words files old status numbers f = record {
+  usage = λ refused. absurd (refused.format numbers f);
+  bad_script = λ n bad. absurd (not_both words bad.name numbers bad.run f);
+  no_file = λ x gone. absurd (not_both words gone.name numbers gone.run f);
+  bad_disk = λ place there honest bad. absurd (not_both words there.ready.name numbers there.ready.run f);
+  good_disk = λ there honest read. absurd (not_both words there.ready.name numbers there.ready.run f);
+}
 
-pub complete_told : (words : List (List ℕ)) (told : Option Files) (shelf sink : Type 0) (history : List Entry) (status : Status) → Comes words told shelf sink history status →
-    IfSome told (λ files. (script : Reading) (tapes : List (List ℕ)) → IsReady words files script tapes → (shelf → ⊥) → (sink → ⊥) → (status ≡ Done) ⊎ (status ≡ NoMemory))
-complete_told words None shelf sink history status h = tt
-complete_told words (Some files) shelf sink history status h = λ script tapes r calm dry. complete words files shelf sink history status script tapes h r calm dry
+pub exact_told : (words : List (List ℕ)) (told : Option Files) (shelf sink : Type 0) (old new : Told) (history : List Entry) (status : Status) → Comes words told shelf sink old new history status →
+    IfSome told (λ files. IsExact words files old status)
+exact_told words None shelf sink old new history status h = tt
+exact_told words (Some files) shelf sink old new history status (inl h) = exact words files shelf sink old new history status h.1
+exact_told words (Some files) shelf sink old new history status (inr h) = format_exact words files old status h.numbers h.words_are
+
+-- ---- where no count rose
+
+no_faults_at : (low n high : ℕ) → (HasRisen low high → ⊥) → (high < 2 ^ 64 - 1 → low + n ≤ high) → n ≡ 0
+no_faults_at low zero high calm covers = refl
+no_faults_at low (suc n) high calm covers = absurd (calm (λ below. let most = covers below in omega (arith, most)))
+
+no_faults : (words : List (List ℕ)) (files : Files) (old new : Told) (history : List Entry) → old.faults ≤ new.faults → (HasRisen old.faults new.faults → ⊥) → SoFar words (Some files) old new history → NoFaults history
+no_faults words files old new history later calm (inl none) = ap (count_by is_fault) none
+no_faults words files old new history later calm (inr ran) = no_faults_at old.faults (count_by is_fault history) new.faults calm ran.1.performed.disk.faults
+
+done_or_wanting : (words : List (List ℕ)) (files : Files) (shelf sink : Type 0) (old new : Told) (history : List Entry) (status : Status) → RunComes words (Some files) shelf sink old new history status →
+    IsThere words files → IsTrue old.honest → IsRead old → (shelf → ⊥) → (sink → ⊥) → (HasRisen old.faults new.faults → ⊥) → (status ≡ Done) ⊎ (status ≡ NoMemory)
+done_or_wanting words files shelf sink old new history Done h there honest read calm dry still = inl refl
+done_or_wanting words files shelf sink old new history NoMemory h there honest read calm dry still = inr refl
+done_or_wanting words files shelf sink old new history SinkFault h there honest read calm dry still = absurd (dry h.0)
+done_or_wanting words files shelf sink old new history ShelfFault h there honest read calm dry still = absurd (calm h)
+done_or_wanting words files shelf sink old new history BadShape h there honest read calm dry still = absurd h
+done_or_wanting words files shelf sink old new history Usage h there honest read calm dry still = absurd (h there.ready.name there.ready.run)
+done_or_wanting words files shelf sink old new history (BadScript n) h there honest read calm dry still = absurd (ready_not_bad words files there.script there.tapes n there.ready h)
+done_or_wanting words files shelf sink old new history (NoFile x) h there honest read calm dry still = absurd (ready_not_absent words files there.script there.tapes x there.ready h)
+done_or_wanting words files shelf sink old new history (BadDisk place) h there honest read calm dry still = absurd (read_not_bad old place read (h.0 honest))
+done_or_wanting words files shelf sink old new history DiskFault h there honest read calm dry still = absurd (still h.0)
+
+-- where all is there and no count rose, the run is done or memory was wanted, and no entry tells of a fault
+pub complete_told : (words : List (List ℕ)) (told : Option Files) (shelf sink : Type 0) (old new : Told) (history : List Entry) (status : Status) → Comes words told shelf sink old new history status → SoFar words told old new history → old.faults ≤ new.faults →
+    IfSome told (λ files. IsComplete words files shelf sink old new history status)
+complete_told words None shelf sink old new history status h so_far later = tt
+complete_told words (Some files) shelf sink old new history status (inl h) so_far later = λ there honest read calm dry still.
+    (done_or_wanting words files shelf sink old new history status h.1 there honest read calm dry still, no_faults words files old new history later still so_far)
+complete_told words (Some files) shelf sink old new history status (inr h) so_far later = λ there honest read calm dry still. absurd (not_both words there.ready.name h.numbers there.ready.run h.words_are)

@@ -1,135 +1,214 @@
 -- Histories that follow the lines of a script.
-use Rattle.std.proofs.Common.{◌≡◌, ℕ, ◌+◌, ◌<◌, List, [], ◌∷◌, ◌++◌, length, get_or, take, map, Some, Option, sym, refl, ap, subst, ◌∙◌, Result, Ok, Err, Bool, true, false, cond, zero, suc}
-use Rattle.std.specs.Prelude.{OnOk, ◌==◌, All}
-use Rattle.std.specs.Result.{is_err}
-use Rattle.std.proofs.lemmas.List.{map-append, take_more}
-use Rattle.std.proofs.lemmas.List.Elements.{All-head, All-tail}
+use Rattle.std.proofs.Common.{◌≡◌, ◌≤◌, ◌<◌, ◌+◌, ℕ, inl, inr, ◌⊎◌, List, [], ◌∷◌, ◌++◌, length, get_or, set, take, map, cond, not, Bool, true, false, refl, sym, ap, subst, ◌∙◌, arith, append_assoc, append-nil}
+use Rattle.std.specs.Prelude.{◌==◌, All}
+use Rattle.std.proofs.lemmas.List.{take_more, get_or-set_other}
+use Rattle.std.proofs.lemmas.Grind.{get_or-set_at}
+use Rattle.std.proofs.Common.{length-set}
+use Rattle.std.proofs.lemmas.List.Elements.{filter-append}
+use Rattle.std.proofs.lemmas.Bool.Decides.{nat_tests}
 use Rattle.voice_model.specs.declared.calls.Entry.{Entry}
 use Rattle.voice_model.specs.declared.calls.Call.{Call}
-use Rattle.voice_model.specs.Follows.{Follows, Does, Binding, variables_after}
-use Rattle.voice_store.specs.Recording.{State, opened, Legal, IsAnswer, state_after, after}
+use Rattle.voice_model.specs.declared.calls.Call.TheVariants as calls
+use Rattle.voice_model.specs.declared.calls.Reply.{Reply}
+use Rattle.voice_model.specs.State.{State}
+use Rattle.voice_model.specs.Step.{Legal, IsReply, state_after}
+use Rattle.voice_model.specs.Follows.{Binding, Follows, value_of, variables_after}
 use Rattle.script_lang.specs.declared.scripts.Line.{Line}
-use Rattle.script_lang.specs.declared.scripts.Verb.{Verb}
-use Rattle.script_lang.specs.declared.scripts.Verb.TheVariants as verbs
-use Rattle.script_lang.specs.Shown.{Reading}
-use Rattle.script_lang.specs.Verbs.{is_built_verb}
-use Rattle.script_lang.specs.Whole.{IsLineOf, IsWhole}
-use Rattle.script_lang.specs.Parts.{served}
-use Rattle.script_lang.specs.Errands.{errand_of, asked}
-use Rattle.voice_main.specs.Ran.{InOrder, EachFollows, Serial, said, asked_by, lines_of_caller, entries_of_caller}
-use Rattle.voice_main.proofs.Built.{IsRecord, built_records}
+use Rattle.script_lang.specs.Errands.{errand_of, SameValues}
+use Rattle.voice_main.specs.Ordered.{Variables, unset, with_those_of, AreBy, DoesLine, InOrder, LineRan, LineBound, asked_entries, is_landing, lines_of_caller, entries_of_caller, EachFollows}
 
--- ---- one call more
+-- ---- one line more
 
-pub legal-push : (s : State) (tapes : List (List ℕ)) (history : List Entry) (e : Entry) → Legal s tapes history → IsAnswer (after s tapes history) tapes e → Legal s tapes (history ++ e ∷ [])
-legal-push s tapes [] e legal answer = (answer, tt)
-legal-push s tapes (f ∷ history) e legal answer = (legal.0, legal-push (state_after s tapes f) tapes history e legal.1 answer)
+-- the lines so far are done, and then these variables stand: what is in order from here on is in order behind them
+pub record Reaches (tapes : List (List ℕ)) (lines : List Line) (history : List Entry) (variables : Variables) : Type 0 where
+  pub on : (more : List Line) (entries : List Entry) → InOrder tapes variables more entries → InOrder tapes unset (lines ++ more) (asked_entries history ++ entries)
 
-pub after-push : (s : State) (tapes : List (List ℕ)) (history : List Entry) (e : Entry) → after s tapes (history ++ e ∷ []) ≡ state_after (after s tapes history) tapes e
-after-push s tapes [] e = refl
-after-push s tapes (f ∷ history) e = after-push (state_after s tapes f) tapes history e
+pub starts : (tapes : List (List ℕ)) (history : List Entry) → history ≡ [] → Reaches tapes [] history unset
+starts tapes history none = record { on = λ more entries h. subst (λ l. InOrder tapes unset more (l ++ entries)) (sym (ap asked_entries none)) h }
 
--- one call more is legal, where the store's state is the one after the calls before
-pub legal-more : (mid : State) (tapes kept : List (List ℕ)) (history grown : List Entry) (e : Entry) → kept ≡ tapes → mid ≡ after opened tapes history → Legal opened tapes history → IsAnswer mid kept e →
-    grown ≡ history ++ e ∷ [] → Legal opened tapes grown
-legal-more mid tapes kept history grown e same is legal answer longer =
-    let here = subst (λ s. IsAnswer s tapes e) is (subst (λ t. IsAnswer mid t e) same answer) in
-    subst (λ h. Legal opened tapes h) (sym longer) (legal-push opened tapes history e legal here)
+-- they are in order
+pub in_order : (tapes : List (List ℕ)) (lines : List Line) (history : List Entry) (variables : Variables) → Reaches tapes lines history variables → InOrder tapes unset lines (asked_entries history)
+in_order tapes lines history variables h =
+    subst (λ l. InOrder tapes unset l (asked_entries history)) (append-nil lines) (subst (λ l. InOrder tapes unset (lines ++ []) l) (append-nil (asked_entries history)) (h.on [] [] refl))
 
-pub after-more : (mid new : State) (tapes kept : List (List ℕ)) (history grown : List Entry) (e : Entry) → kept ≡ tapes → mid ≡ after opened tapes history → new ≡ state_after mid kept e → grown ≡ history ++ e ∷ [] →
-    new ≡ after opened tapes grown
-after-more mid new tapes kept history grown e same is step longer =
-    step ∙ ap (λ t. state_after mid t e) same ∙ ap (λ s. state_after s tapes e) is ∙ sym (after-push opened tapes history e) ∙ sym (ap (after opened tapes) longer)
+pub one_line_more : (tapes : List (List ℕ)) (lines : List Line) (line : Line) (old new : List Entry) (variables : Variables) → Reaches tapes lines old variables → (ran : LineRan tapes line (variables line.caller) old new)
+    → Reaches tapes (lines ++ line ∷ []) new (with_those_of line.caller (variables_after line.bind ran.own (variables line.caller)) variables)
+one_line_more tapes lines line old new variables h ran = record {
+  on = λ more entries rest.
+      let here : InOrder tapes variables (line ∷ more) (ran.own ++ entries) = (ran.own, entries, refl, ran.by, ran.does, rest) in
+      let whole : InOrder tapes unset (lines ++ line ∷ more) (asked_entries old ++ ran.own ++ entries) = subst (λ l. InOrder tapes unset (lines ++ line ∷ more) l) (sym (append_assoc (asked_entries old) ran.own entries)) (h.on (line ∷ more) (ran.own ++ entries) here) in
+      let grown : InOrder tapes unset (lines ++ line ∷ more) (asked_entries new ++ entries) = subst (λ l. InOrder tapes unset (lines ++ line ∷ more) (l ++ entries)) (sym ran.added) whole in
+      subst (λ l. InOrder tapes unset l (asked_entries new ++ entries)) (sym (append_assoc lines (line ∷ []) more)) grown;
+}
 
-pub order-more : (tapes : List (List ℕ)) (lines : List Line) (i : ℕ) (line : Line) (history grown : List Entry) (e : Entry) → i < length lines → line ≡ get_or lines i line →
-    said e ≡ asked_by tapes line → InOrder tapes (take i lines) history → grown ≡ history ++ e ∷ [] → InOrder tapes (take (i + 1) lines) grown
-order-more tapes lines i line history grown e within is same so_far longer =
-    ap (map said) longer ∙ map-append said history (e ∷ []) ∙ ap (λ l. l ++ said e ∷ []) so_far ∙ ap (λ x. map (asked_by tapes) (take i lines) ++ x ∷ []) same
-    ∙ sym (ap (map (asked_by tapes)) (take_more lines i line within ∙ ap (λ x. take i lines ++ x ∷ []) (sym is)) ∙ map-append (asked_by tapes) (take i lines) (line ∷ []))
+-- nothing was added
+pub reaches_still : (tapes : List (List ℕ)) (lines : List Line) (old new : List Entry) (variables : Variables) → asked_entries new ≡ asked_entries old → Reaches tapes lines old variables → Reaches tapes lines new variables
+reaches_still tapes lines old new variables same h = record { on = λ more entries rest. subst (λ l. InOrder tapes unset (lines ++ more) (l ++ entries)) (sym same) (h.on more entries rest) }
 
 -- ---- each caller's entries
 
--- each line records
-abbrev pub Records : List Line → Type 0
-Records [] = Unit {0}
-Records (l ∷ ls) = IsRecord l.verb × Records ls
+abbrev nobody : List Entry
+nobody = []
 
-pub records_all : (n callers : ℕ) (lines : List Line) → All (IsLineOf is_built_verb n callers) lines → Records lines
-records_all n callers [] h = tt
-records_all n callers (l ∷ ls) h =
-    (built_records l.verb (All-head (IsLineOf is_built_verb n callers) l ls h).verb, records_all n callers ls (All-tail (IsLineOf is_built_verb n callers) l ls h))
+none_either : (b : Bool) → nobody ≡ cond b nobody nobody
+none_either true = refl
+none_either false = refl
 
-records_take : (k : ℕ) (lines : List Line) → Records lines → Records (take k lines)
-records_take zero lines h = tt
-records_take (suc k) [] h = tt
-records_take (suc k) (l ∷ ls) h = (h.0, records_take k ls h.1)
+picked : (b : Bool) (e : Entry) (es : List Entry) → cond b (e ∷ cond b es []) (cond b es []) ≡ cond b (e ∷ es) []
+picked true e es = refl
+picked false e es = refl
 
-records_cond : (b : Bool) (l : Line) (ls : List Line) → IsRecord l.verb → Records ls → Records (cond b (l ∷ ls) ls)
-records_cond true l ls p q = (p, q)
-records_cond false l ls p q = q
+all_by : (caller : ℕ) (es : List Entry) (c : ℕ) → AreBy caller es → entries_of_caller c es ≡ cond (caller == c) es []
+all_by caller [] c h = none_either (caller == c)
+all_by caller (e ∷ es) c h =
+    ap (λ n. cond (n == c) (e ∷ entries_of_caller c es) (entries_of_caller c es)) h.0 ∙ ap (λ l. cond (caller == c) (e ∷ l) l) (all_by caller es c h.1) ∙ picked (caller == c) e es
 
-records_of_caller : (caller : ℕ) (lines : List Line) → Records lines → Records (lines_of_caller caller lines)
-records_of_caller caller [] h = tt
-records_of_caller caller (l ∷ ls) h = records_cond (l.caller == caller) l (lines_of_caller caller ls) h.0 (records_of_caller caller ls h.1)
+same_caller : (a c : ℕ) → (a == c) ≡ true → a ≡ c
+same_caller a c h = grind (arith, nat_tests)
 
--- a line that records makes the one entry that it asks for, whatever its caller's variables are
-does_record : (tapes : List (List ℕ)) (variables : List Binding) (verb : Verb) (tape : ℕ) (e : Entry) → verb ≡ verbs.Record tape → Some e.call ≡ asked tapes verb [] → Does (asked tapes verb variables) (served verb) (e ∷ [])
-does_record tapes variables verb tape e is same =
-    let P : Verb → Type 0 = λ v. Some e.call ≡ asked tapes v [] → Does (asked tapes v variables) (served v) (e ∷ []) in
-    subst P (sym is) (λ h. (cc, refl)) same
+at_caller : (b : Bool) (tapes : List (List ℕ)) (line : Line) (c : ℕ) (variables : Variables) (new : List Binding) (own rest : List Entry) (ls : List Line) → (line.caller == c) ≡ b
+    → DoesLine tapes (variables line.caller) line own → new ≡ variables_after line.bind own (variables line.caller) → Follows (cond b new (variables c)) (map (errand_of tapes) ls) rest
+    → Follows (variables c) (map (errand_of tapes) (cond b (line ∷ ls) ls)) (cond b own [] ++ rest)
+at_caller true tapes line c variables new own rest ls is does set later =
+    let same = same_caller line.caller c is in
+    let here : DoesLine tapes (variables c) line own = subst (λ n. DoesLine tapes (variables n) line own) same does in
+    let sets : new ≡ variables_after line.bind own (variables c) = set ∙ ap (λ n. variables_after line.bind own (variables n)) same in
+    (own, rest, refl, here, subst (λ v. Follows v (map (errand_of tapes) ls) rest) sets later)
+at_caller false tapes line c variables new own rest ls is does set later = later
 
-follows_lines : (tapes : List (List ℕ)) (variables : List Binding) (lines : List Line) (entries : List Entry) → Records lines → InOrder tapes lines entries → Follows variables (map (errand_of tapes) lines) entries
-follows_lines tapes variables [] [] records order = refl
-follows_lines tapes variables [] (e ∷ es) records order = cc
-follows_lines tapes variables (l ∷ ls) [] records order = cc
-follows_lines tapes variables (l ∷ ls) (e ∷ es) records order =
-    let first : said e ≡ asked_by tapes l = cc in
-    let rest : map said es ≡ map (asked_by tapes) ls = cc in (
-      e ∷ [],
-      es,
-      refl,
-      does_record tapes variables l.verb records.0.0 e records.0.1 (ap (λ (p : ℕ × Option Call). p.1) first),
-      follows_lines tapes (variables_after l.bind (e ∷ []) variables) ls es records.1 rest,
+each_of : (tapes : List (List ℕ)) (variables : Variables) (lines : List Line) (entries : List Entry) → InOrder tapes variables lines entries → (c : ℕ) →
+    Follows (variables c) (map (errand_of tapes) (lines_of_caller c lines)) (entries_of_caller c entries)
+each_of tapes variables [] entries h c = ap (entries_of_caller c) h
+each_of tapes variables (line ∷ lines) entries h c =
+    let own = h.0 in
+    let rest = h.1 in
+    let new = variables_after line.bind own (variables line.caller) in
+    let split : entries_of_caller c entries ≡ cond (line.caller == c) own [] ++ entries_of_caller c rest =
+    ap (entries_of_caller c) h.2 ∙ filter-append (λ e. e.caller == c) own rest ∙ ap (λ l. l ++ entries_of_caller c rest) (all_by line.caller own c h.3) in
+    let later = each_of tapes (with_those_of line.caller new variables) lines rest h.5 c in
+    subst (λ es. Follows (variables c) (map (errand_of tapes) (lines_of_caller c (line ∷ lines))) es) (sym split)
+    (at_caller (line.caller == c) tapes line c variables new own (entries_of_caller c rest) (lines_of_caller c lines) refl h.4 refl later)
+
+no : false ≡ true → ⊥
+no e = cc
+
+-- a landing is an entry of caller 0
+by_nobody : (s : State) (tapes : List (List ℕ)) (caller : ℕ) (call : Call) (reply : Reply) → IsReply s tapes caller call reply → is_landing call ≡ true → caller ≡ 0
+by_nobody s tapes caller calls.Landed reply h is = h.0
+by_nobody s tapes caller (calls.Record take) reply h is = absurd (no is)
+by_nobody s tapes caller (calls.Concat ids) reply h is = absurd (no is)
+by_nobody s tapes caller (calls.Sub id start len) reply h is = absurd (no is)
+by_nobody s tapes caller (calls.Replace id start len with) reply h is = absurd (no is)
+by_nobody s tapes caller (calls.Length id) reply h is = absurd (no is)
+by_nobody s tapes caller (calls.Describe id) reply h is = absurd (no is)
+by_nobody s tapes caller (calls.Play lane id start len) reply h is = absurd (no is)
+by_nobody s tapes caller (calls.Feed lane back) reply h is = absurd (no is)
+by_nobody s tapes caller (calls.Stop lane) reply h is = absurd (no is)
+by_nobody s tapes caller (calls.Retain class key id note) reply h is = absurd (no is)
+by_nobody s tapes caller (calls.Forget class key) reply h is = absurd (no is)
+by_nobody s tapes caller (calls.Lookup class key) reply h is = absurd (no is)
+by_nobody s tapes caller (calls.Census keys) reply h is = absurd (no is)
+by_nobody s tapes caller (calls.Advance moment) reply h is = absurd (no is)
+by_nobody s tapes caller (calls.Sweep limit) reply h is = absurd (no is)
+by_nobody s tapes caller (calls.Begin lane) reply h is = absurd (no is)
+by_nobody s tapes caller (calls.Add lane take) reply h is = absurd (no is)
+by_nobody s tapes caller (calls.End lane) reply h is = absurd (no is)
+by_nobody s tapes caller (calls.Levels id) reply h is = absurd (no is)
+
+not_nobody : (caller c : ℕ) → caller ≡ 0 → 1 ≤ c → (caller == c) ≡ false
+not_nobody caller c none some = grind (arith, nat_tests)
+
+aside : (b : Bool) (e : Entry) (asked all : List Entry) (c : ℕ) → is_landing e.call ≡ b → (b ≡ true → (e.caller == c) ≡ false) → entries_of_caller c asked ≡ entries_of_caller c all →
+    entries_of_caller c (cond (not b) (e ∷ asked) asked) ≡ entries_of_caller c (e ∷ all)
+aside true e asked all c is lands same = same ∙ sym (ap (λ x. cond x (e ∷ entries_of_caller c all) (entries_of_caller c all)) (lands refl))
+aside false e asked all c is lands same = ap (λ l. cond (e.caller == c) (e ∷ l) l) same
+
+-- landings are no entries of a caller
+same_of_caller : (s : State) (tapes : List (List ℕ)) (history : List Entry) (c : ℕ) → 1 ≤ c → Legal s tapes history → entries_of_caller c (asked_entries history) ≡ entries_of_caller c history
+same_of_caller s tapes [] c some legal = refl
+same_of_caller s tapes (e ∷ es) c some legal =
+    aside (is_landing e.call) e (asked_entries es) es c refl (λ is. not_nobody e.caller c (by_nobody s tapes e.caller e.call e.reply legal.0 is) some) (same_of_caller (state_after s tapes e) tapes es c some legal.1)
+
+pub each_follows : (s : State) (tapes : List (List ℕ)) (lines : List Line) (history : List Entry) → Legal s tapes history → InOrder tapes unset lines (asked_entries history) → EachFollows tapes lines history
+each_follows s tapes lines history legal order = λ c some.
+    subst (Follows [] (map (errand_of tapes) (lines_of_caller c lines))) (same_of_caller s tapes history c some legal) (each_of tapes unset lines (asked_entries history) order c)
+
+-- ---- the variables that the callers' environments stand for
+
+-- each environment stands for its caller's variables
+abbrev pub AreStood : List (List Binding) → Variables → Type 0
+AreStood envs variables = (k : ℕ) (d : List Binding) → k < length envs → SameValues (get_or envs k d) (variables (k + 1))
+
+same_number : (a b : ℕ) → (a == b) ≡ true → a ≡ b
+same_number a b h = grind (arith, nat_tests)
+
+other_number : (a b : ℕ) → (a == b) ≡ false → a ≡ b → ⊥
+other_number a b h = grind (arith, nat_tests)
+
+is_same : (a b : ℕ) → a ≡ b → (a == b) ≡ true
+is_same a b h = grind (arith, nat_tests)
+
+is_other : (a b : ℕ) → (a ≡ b → ⊥) → (a == b) ≡ false
+is_other a b h = grind (arith, nat_tests)
+
+stood_at : (b : Bool) (envs : List (List Binding)) (j caller k : ℕ) (d after new : List Binding) (variables : Variables) → (k == j) ≡ b → j + 1 ≡ caller → k < length envs → SameValues after new → SameValues (get_or envs k d) (variables (k + 1))
+    → SameValues (get_or (set envs j after) k d) (with_those_of caller new variables (k + 1))
+stood_at true envs j caller k d after new variables is at within set_so stood =
+    let same : k ≡ j = same_number k j is in
+    let mine : (caller == (k + 1)) ≡ true = is_same caller (k + 1) (omega (arith, at, same)) in
+    let new_there : new ≡ with_those_of caller new variables (k + 1) = sym (ap (λ x. cond x new (variables (k + 1))) mine) in
+    let after_there : after ≡ get_or (set envs j after) k d = sym (get_or-set_at envs j k after d same (omega (arith, within, same))) in
+    subst (λ v. SameValues (get_or (set envs j after) k d) v) new_there (subst (λ v. SameValues v new) after_there set_so)
+stood_at false envs j caller k d after new variables is at within set_so stood =
+    let apart : k ≡ j → ⊥ = other_number k j is in
+    let others : (caller == (k + 1)) ≡ false = is_other caller (k + 1) (λ e. apart (omega (arith, at, e))) in
+    let old_there : variables (k + 1) ≡ with_those_of caller new variables (k + 1) = sym (ap (λ x. cond x new (variables (k + 1))) others) in
+    let env_there : get_or envs k d ≡ get_or (set envs j after) k d = sym (get_or-set_other envs j k after d apart) in
+    subst (λ v. SameValues (get_or (set envs j after) k d) v) old_there (subst (λ v. SameValues v (variables (k + 1))) env_there stood)
+
+-- where the first i lines have led
+abbrev pub IsAt : List (List ℕ) → List Line → ℕ → List Entry → List (List Binding) → Type 0
+IsAt tapes lines i history envs = (stand : Variables) × Reaches tapes (take i lines) history stand × AreStood envs stand
+
+stands_so : (envs : List (List Binding)) (stand : Variables) (j caller : ℕ) (now : List Binding) → AreStood envs stand → j + 1 ≡ caller → j < length envs → now ≡ get_or envs j now → SameValues now (stand caller)
+stands_so envs stand j caller now h at within is = subst (λ n. SameValues now (stand n)) at (subst (λ v. SameValues v (stand (j + 1))) (sym is) (h j now within))
+
+one_more : (lines : List Line) (i : ℕ) (line : Line) → i < length lines → line ≡ get_or lines i line → take i lines ++ line ∷ [] ≡ take (i + 1) lines
+one_more lines i line within is = ap (λ l. take i lines ++ l ∷ []) is ∙ sym (take_more lines i line within)
+
+-- one line more was done
+pub reached_more : (tapes : List (List ℕ)) (lines : List Line) (i : ℕ) (line : Line) (old new : List Entry) (envs : List (List Binding)) (j : ℕ) (now after : List Binding) → i < length lines → line ≡ get_or lines i line → j + 1 ≡ line.caller → j < length envs
+    → now ≡ get_or envs j now → IsAt tapes lines i old envs → ((stand : List Binding) → SameValues now stand → LineBound tapes line stand after old new) → IsAt tapes lines (i + 1) new (set envs j after)
+reached_more tapes lines i line old new envs j now after within is at there stood h f =
+    let bound = f (h.0 line.caller) (stands_so envs h.0 j line.caller now h.2 at there stood) in
+    let values = variables_after line.bind bound.0.own (h.0 line.caller) in
+    let reaches = one_line_more tapes (take i lines) line old new h.0 h.1 bound.0 in (
+      with_those_of line.caller values h.0,
+      subst (λ l. Reaches tapes l new (with_those_of line.caller values h.0)) (one_more lines i line within is) reaches,
+      λ k d less. let less' : k < length envs = omega (arith, less, length-set envs j after) in stood_at (k == j) envs j line.caller k d after values h.0 refl at less' bound.1 (h.2 k d less'),
     )
 
-same_pick : {X : Type 0} (b : Bool) (f : X → ℕ × Option Call) (x : X) (xs : List X) (p : ℕ × Option Call) (ps : List (ℕ × Option Call)) → f x ≡ p → map f xs ≡ ps → map f (cond b (x ∷ xs) xs) ≡ cond b (p ∷ ps) ps
-same_pick true f x xs p ps first rest = ap (λ q. q ∷ map f xs) first ∙ ap (λ q. p ∷ q) rest
-same_pick false f x xs p ps first rest = rest
+either_way : (tapes : List (List ℕ)) (lines : List Line) (i : ℕ) (line : Line) (old new : List Entry) (variables : Variables) → i < length lines → line ≡ get_or lines i line → Reaches tapes (take i lines) old variables
+    → (asked_entries new ≡ asked_entries old) ⊎ LineRan tapes line (variables line.caller) old new → (k : ℕ) × InOrder tapes unset (take k lines) (asked_entries new)
+either_way tapes lines i line old new variables within is h (inl same) = (i, in_order tapes (take i lines) new variables (reaches_still tapes (take i lines) old new variables same h))
+either_way tapes lines i line old new variables within is h (inr ran) = (
+  i + 1,
+  subst (λ l. InOrder tapes unset l (asked_entries new)) (one_more lines i line within is) (in_order tapes (take i lines ++ line ∷ []) new _ (one_line_more tapes (take i lines) line old new variables h ran)),
+)
 
--- what is in order is in order for each caller
-order_of_caller : (tapes : List (List ℕ)) (caller : ℕ) (lines : List Line) (history : List Entry) → InOrder tapes lines history → InOrder tapes (lines_of_caller caller lines) (entries_of_caller caller history)
-order_of_caller tapes c [] [] e = refl
-order_of_caller tapes c [] (h ∷ history) e = cc
-order_of_caller tapes c (l ∷ lines) [] e = cc
-order_of_caller tapes c (l ∷ lines) (h ∷ history) e =
-    let first : said h ≡ asked_by tapes l = cc in
-    let rest : map said history ≡ map (asked_by tapes) lines = cc in
-    let callers : h.caller ≡ l.caller = ap (λ (p : ℕ × Option Call). p.0) first in
-    same_pick (h.caller == c) said h (entries_of_caller c history) (asked_by tapes l) (map (asked_by tapes) (lines_of_caller c lines)) first (order_of_caller tapes c lines history rest)
-    ∙ ap (λ n. cond (n == c) (asked_by tapes l ∷ map (asked_by tapes) (lines_of_caller c lines)) (map (asked_by tapes) (lines_of_caller c lines))) callers
-    ∙ sym (same_pick (l.caller == c) (asked_by tapes) l (lines_of_caller c lines) (asked_by tapes l) (map (asked_by tapes) (lines_of_caller c lines)) refl refl)
+-- the line was done, or nothing of it
+pub reached_so_far : (tapes : List (List ℕ)) (lines : List Line) (i : ℕ) (line : Line) (old new : List Entry) (envs : List (List Binding)) (j : ℕ) (now : List Binding) → i < length lines → line ≡ get_or lines i line → j + 1 ≡ line.caller → j < length envs
+    → now ≡ get_or envs j now → IsAt tapes lines i old envs → ((stand : List Binding) → SameValues now stand → (asked_entries new ≡ asked_entries old) ⊎ LineRan tapes line stand old new) → (k : ℕ) × InOrder tapes unset (take k lines) (asked_entries new)
+reached_so_far tapes lines i line old new envs j now within is at there stood h f =
+    either_way tapes lines i line old new h.0 within is h.1 (f (h.0 line.caller) (stands_so envs h.0 j line.caller now h.2 at there stood))
 
-each_follows : (tapes : List (List ℕ)) (lines : List Line) (history : List Entry) → Records lines → InOrder tapes lines history → EachFollows tapes lines history
-each_follows tapes lines history records order = λ caller.
-    follows_lines tapes [] (lines_of_caller caller lines) (entries_of_caller caller history) (records_of_caller caller lines records) (order_of_caller tapes caller lines history order)
+pub reached : (tapes : List (List ℕ)) (lines : List Line) (i : ℕ) (history : List Entry) (envs : List (List Binding)) → IsAt tapes lines i history envs → InOrder tapes unset (take i lines) (asked_entries history)
+reached tapes lines i history envs h = in_order tapes (take i lines) history h.0 h.1
 
--- ---- the history of a run
+-- before the first line
+pub none_reached : (tapes : List (List ℕ)) (lines : List Line) (history : List Entry) (envs : List (List Binding)) → history ≡ [] → All (λ variables. variables ≡ []) envs → IsAt tapes lines 0 history envs
+none_reached tapes lines history envs none h = (unset, starts tapes history none, λ k d less name. ap (λ v. value_of v name) (h k d less))
 
-pub nothing : (tapes : List (List ℕ)) (lines : List Line) (history : List Entry) → history ≡ [] → (k : ℕ) × Serial tapes lines k history
-nothing tapes lines history none =
-    (0, subst (Serial tapes lines 0) (sym none) (record { legal = tt; order = refl; each = λ c. refl }))
-
-serial_from : (tapes : List (List ℕ)) (script : Reading) (k : ℕ) (made history : List Entry) → IsWhole is_built_verb script → history ≡ made → Legal opened tapes made → InOrder tapes (take k script.lines) made → Serial tapes script.lines k history
-serial_from tapes script k made history whole same legal order =
-    let records = records_take k script.lines (records_all (length script.samples) script.callers script.lines whole.lines) in
-    subst (Serial tapes script.lines k) (sym same) (record { legal = legal; order = order; each = each_follows tapes (take k script.lines) made records order })
-
--- the same, of the tapes that the run was lent
-pub ran : (tapes lent : List (List ℕ)) (script : Reading) (k : ℕ) (made history : List Entry) → lent ≡ tapes → IsWhole is_built_verb script → history ≡ made → Legal opened lent made → InOrder lent (take k script.lines) made →
-    Serial tapes script.lines k history
-ran tapes lent script k made history same_tapes whole same legal order =
-    serial_from tapes script k made history whole same (subst (λ t. Legal opened t made) same_tapes legal) (subst (λ t. InOrder t (take k script.lines) made) same_tapes order)
-
-pub at_ok : {T E P : Type 0} (r : Result T E) → is_err r ≡ false → OnOk r P → P
-at_ok (Ok x) fine h = h
-at_ok (Err e) fine h = cc
+-- what holds of each line holds of the line at a place
+pub line_has : (P : Line → Type 0) (lines : List Line) (i : ℕ) (line : Line) → All P lines → i < length lines → line ≡ get_or lines i line → P line
+line_has P lines i line h within is = subst P (sym is) (h i line within)

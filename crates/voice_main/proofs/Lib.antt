@@ -1,9 +1,12 @@
-pub mod Came
-pub mod Exact
 pub mod Loaded
 pub mod Named
-pub mod Followed
-pub mod Built
 pub mod Stopped
 pub mod Written
 pub mod Texts
+pub mod Built
+pub mod Added
+pub mod Followed
+pub mod Going
+pub mod Came
+pub mod Exact
+pub mod Pairing

@@ -3,7 +3,7 @@ use Rattle.std.proofs.Common.{◌≡◌, ℕ, ◌<◌, ◌≤◌, true, false, L
 use Rattle.std.specs.Prelude.{MatchOption, codes}
 use Rattle.std.proofs.lemmas.Bool.{false≢true}
 use Rattle.script_lang.specs.Forms.{is_file}
-use Rattle.voice_main.specs.Words.{IsRun, IsRefused}
+use Rattle.voice_main.specs.Words.{IsRun, IsNoRun}
 
 pub two_items : {X : Type 0} (f : X → List ℕ) (xs : List X) (v n : X) → 2 ≤ length xs → length xs < 3 → v ≡ get_or xs 0 v → n ≡ get_or xs 1 n → map f xs ≡ f v ∷ f n ∷ []
 two_items f [] v n low high first second = absurd (omega arith)
@@ -12,7 +12,7 @@ two_items f (a ∷ b ∷ []) v n low high first second = ap (λ x. f x ∷ f b �
 two_items f (a ∷ b ∷ c ∷ xs) v n low high first second = absurd (omega arith)
 
 pub named : (r : Option (List ℕ)) (words : List (List ℕ)) (verb bytes : List ℕ) → words ≡ verb ∷ bytes ∷ [] → verb ≡ codes "run" →
-    MatchOption r (is_file bytes ≡ false) (λ name. (is_file bytes ≡ true) × (name ≡ bytes)) → MatchOption r (IsRefused words) (IsRun words)
+    MatchOption r (is_file bytes ≡ false) (λ name. (is_file bytes ≡ true) × (name ≡ bytes)) → MatchOption r (IsNoRun words) (IsRun words)
 named None words verb bytes two run h = λ name is.
     let rest : verb ∷ bytes ∷ [] ≡ codes "run" ∷ name ∷ [] = sym two ∙ is.form in
     let same : bytes ≡ name = cc in

@@ -9,7 +9,7 @@ use Rattle.script_lang.specs.declared.scripts.ScriptError.TheVariants as script
 use Rattle.script_lang.specs.Verbs.{is_built_verb}
 use Rattle.script_lang.specs.Causes.{FirstBad, ErrsAt}
 use Rattle.voice_main.specs.Words.{IsRun}
-use Rattle.voice_main.specs.Ran.{IsBadScript, Stops, script_status_of}
+use Rattle.voice_main.specs.Statuses.{IsBadScript, Stops, script_status_of}
 
 bad_line : (words : List (List ℕ)) (told : Option Files) (name bytes : List ℕ) (n : ℕ) (cause : Cause) → IsRun words name → IfSome told (λ files. get files name ≡ Some bytes) → FirstBad is_built_verb bytes n cause →
     IfSome told (λ files. IsBadScript words files n)

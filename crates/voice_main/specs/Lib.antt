@@ -1,3 +1,7 @@
+pub mod Options
 pub mod Words
 pub mod Load
+pub mod Ordered
 pub mod Ran
+pub mod Formats
+pub mod Statuses

@@ -1,7 +1,10 @@
 //! The top call of the voice manager: `run` does what the words of the command line say, over a shelf of files, a sink of text and a disk.
 #![tactic(auto)]
 
+mod format;
 mod load;
+mod numbers;
+mod options;
 mod output;
 mod script_lines;
 mod status;

@@ -3,7 +3,7 @@
 ghost use Rattle.std.specs.Prelude.{ℕ, List, Some, ◌≡◌, ◌≤◌, ◌++◌, ◌⊎◌, OnOk, IfOk, IfSome, IsErrOf, take};
 ghost use Rattle.voice_model.specs.Text.{text_of};
 ghost use Rattle.voice_outside.specs.Counters.{HasRisen};
-ghost use Rattle.voice_main.specs.Ran.{Performs};
+ghost use Rattle.voice_main.specs.Statuses.{Prints};
 
 use crate::status::Status;
 use script_lang::entry_text;
@@ -47,7 +47,7 @@ fn write_all<O: Sink>(out: &mut O, bytes: &[u8]) -> Result<(), OutsideError>
 
 /// Prints a history.
 pub fn print<O: Sink>(alloc: Global, history: &[Entry], out: &mut O) -> Status
-    ensures which { Performs (HasRisen (O.faults out.old) (O.faults out.new) ⊎ HasRisen (O.empty_takes out.old) (O.empty_takes out.new)) result }
+    ensures which { Prints (HasRisen (O.faults out.old) (O.faults out.new) ⊎ HasRisen (O.empty_takes out.old) (O.empty_takes out.new)) result }
     ensures done { result ≡ Status.Done → IfSome (O.contents out.old) (λ had. O.contents out.new ≡ Some (had ++ text_of history.now)) }
     ensures prefix { IfSome (O.contents out.old) (λ had. (n : ℕ) × (O.contents out.new ≡ Some (had ++ take n (text_of history.now)))) }
 {

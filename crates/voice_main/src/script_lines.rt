@@ -1,19 +1,67 @@
 //! The lines of a script, run in order.
 
-ghost use Rattle.std.specs.Prelude.{ℕ, List, [], ◌≡◌, OnOk, length, take};
-ghost use Rattle.voice_store.specs.Recording.{opened, Legal};
+ghost use Rattle.std.specs.Prelude.{ℕ, List, [], ◌≡◌, ◌≤◌, ◌⊎◌, IsTrue, IfOk, OnOk, All, length, take};
+ghost use Rattle.voice_model.specs.State.{State};
+ghost use Rattle.voice_model.specs.Follows.{Binding};
+ghost use Rattle.voice_store.specs.Shown.{Stands};
 ghost use Rattle.script_lang.specs.Verbs.{is_built_verb};
+ghost use Rattle.script_lang.specs.Grammar.{verb_name};
+ghost use Rattle.script_lang.specs.Errands.{HasTape, HasItsRopes, SameValues};
 ghost use Rattle.script_lang.specs.Whole.{IsWhole};
-ghost use Rattle.voice_main.specs.Ran.{InOrder};
+ghost use Rattle.voice_main.specs.Ordered.{InOrder, LineRan, LineBound, asked_entries, unset};
+ghost use Rattle.voice_main.specs.Ran.{GoesOn};
 
-use script_lang::{Env, Script, resolve};
+use script_lang::{Env, Line, Script, resolve};
 use std::alloc::Global;
 use voice_model::Tapes;
 use voice_outside::{Disk, Gate};
 use voice_store::Store;
 use voice_units::NoMemory;
 
-/// Runs the lines in the script's order, each as one call of the store. After `NoMemory` the lines before stand.
+// Makes the call of a line, and sets the variable that it binds. After `NoMemory` the line's entry may stand.
+fn run_line<D: Disk, G: Gate>(
+    alloc: Global,
+    store: &mut Store<D>,
+    tapes: &Tapes,
+    line: &Line,
+    variables: &mut Env,
+    gate: &G,
+) -> Result<(), NoMemory>
+    requires tapes { store.old.tapes ≡ tapes.now }
+    requires verb { IsTrue (is_built_verb (verb_name line.now.verb)) }
+    requires tape { HasTape (length tapes.now) line.now.verb }
+    requires ropes { HasItsRopes line.now.verb }
+    requires least { 1 ≤ line.now.caller }
+    requires most { line.now.caller ≤ 16 }
+    ensures stands { (first : State) → Stands first (D.told store.old.origin) (D.told store.old.disk) store.old.inside → Stands first (D.told store.new.origin) (D.told store.new.disk) store.new.inside }
+    ensures ran { (stand : List Binding) → SameValues variables.old stand → (asked_entries store.new.history ≡ asked_entries store.old.history) ⊎ LineRan tapes.now line.now stand store.old.history store.new.history }
+    ensures ok { (stand : List Binding) → SameValues variables.old stand → OnOk result (LineBound tapes.now line.now stand variables.new store.old.history store.new.history) }
+    ensures goes { GoesOn (D.told store.old.disk) (D.told store.new.disk) }
+    ensures origin { store.new.origin ≡ store.old.origin }
+    ensures tapes_stay { store.new.tapes ≡ store.old.tapes }
+{
+    let Some(call) = resolve(alloc, line, variables, tapes)? else {
+        unreachable!()
+    };
+    gate.before(line.caller, line.number, 0);
+    let reply = store.apply(line.caller, call)?;
+    gate.after(line.caller, line.number);
+    variables.bind(line, &reply)
+}
+
+// No caller has set a variable.
+fn no_variables(alloc: Global, callers: u16) -> Result<Vec<Env>, NoMemory>
+    ensures len { IfOk result (λ all. length all.items ≡ callers) }
+    ensures unset { IfOk result (λ all. All (λ variables. variables ≡ []) all.items) }
+{
+    let mut all = Vec::new(alloc);
+    for _ in 0..callers {
+        all.push(Env::new(alloc))?;
+    }
+    Ok(all)
+}
+
+/// Runs the lines in the script's order, each as one call of the store. After `NoMemory` the lines before stand, and perhaps the line's own entry.
 pub fn run_lines<D: Disk, G: Gate>(
     alloc: Global,
     store: &mut Store<D>,
@@ -22,24 +70,20 @@ pub fn run_lines<D: Disk, G: Gate>(
     gate: &G,
 ) -> Result<(), NoMemory>
     requires tapes { store.old.tapes ≡ tapes.now }
-    requires state { store.old.state ≡ opened }
     requires history { store.old.history ≡ [] }
     requires lines { IsWhole is_built_verb script.now }
     requires samples { length tapes.now ≡ length script.now.samples }
-    ensures legal { Legal opened tapes.now store.new.history }
-    ensures whole { OnOk result (InOrder tapes.now (take (length script.now.lines) script.now.lines) store.new.history) }
-    ensures disk { store.new.disk ≡ store.old.disk }
-    ensures so_far { (k : ℕ) × InOrder tapes.now (take k script.now.lines) store.new.history }
+    ensures stands { (first : State) → Stands first (D.told store.old.origin) (D.told store.old.disk) store.old.inside → Stands first (D.told store.new.origin) (D.told store.new.disk) store.new.inside }
+    ensures whole { OnOk result (InOrder tapes.now unset script.now.lines (asked_entries store.new.history)) }
+    ensures so_far { (k : ℕ) × InOrder tapes.now unset (take k script.now.lines) (asked_entries store.new.history) }
+    ensures goes { GoesOn (D.told store.old.disk) (D.told store.new.disk) }
+    ensures origin { store.new.origin ≡ store.old.origin }
+    ensures tapes_stay { store.new.tapes ≡ store.old.tapes }
 {
-    // No verb that is built yet reads a variable.
-    let variables = Env::new(alloc);
+    let mut variables = no_variables(alloc, script.callers)?;
     for line in &script.lines {
-        let Some(call) = resolve(alloc, line, &variables, tapes)? else {
-            unreachable!()
-        };
-        gate.before(line.caller, line.number, 0);
-        store.apply(line.caller, call)?;
-        gate.after(line.caller, line.number);
+        let own = &mut variables[line.caller as usize - 1];
+        run_line(alloc, store, tapes, line, own, gate)?;
     }
     Ok(())
 }

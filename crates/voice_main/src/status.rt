@@ -12,6 +12,9 @@ pub enum Status {
     /// The words are in no form that the program knows.
     #[error("voice: usage: voice format|run|make")]
     Usage,
+    /// A disk of that size can't have the shape.
+    #[error("voice: the shape does not fit the disk")]
+    BadShape,
     /// That line, counted from 1, is the script's first bad one.
     #[error("voice: line {0} of the script is refused")]
     BadScript(u32),
@@ -22,6 +25,12 @@ pub enum Status {
     ShelfFault,
     #[error("voice: the output failed")]
     SinkFault,
+    /// The disk's bytes have no reading; the first damage is at that byte.
+    #[error("voice: the disk is damaged at byte {0}")]
+    BadDisk(u64),
+    /// The disk failed before the first call, or as it was formatted.
+    #[error("voice: the disk failed")]
+    DiskFault,
     #[error("voice: no memory")]
     NoMemory,
 }
@@ -31,11 +40,13 @@ impl Status {
     pub fn code(&self) -> u8 {
         match self {
             Status::Done => 0,
-            Status::Usage => 2,
+            Status::Usage | Status::BadShape => 2,
             Status::BadScript(_) => 3,
             Status::NoFile(_) => 4,
             Status::ShelfFault => 5,
             Status::SinkFault => 6,
+            Status::BadDisk(_) => 7,
+            Status::DiskFault => 8,
             Status::NoMemory => 9,
         }
     }

@@ -42,39 +42,43 @@ fn shown<R: Threads + Wait + Sync>(
 
 #[test]
 fn scripts_print_their_replies(rt: HostRuntime) -> Result<(), Fail> {
-    let one = "1 1 record: rope 1 length 20\n";
-    let two = "1 1 record: rope 1 length 20\n2 16 record: rope 2 length 20\n";
     let absent = Status::NoFile(Name::new(b"gone")?);
     // Words, the script `s`, how the run ends, and what it prints.
     let cases = [
-        (["run", "s"].as_slice(), "", Status::Done, ""),
-        (["run", "s"].as_slice(), "1 record f20", Status::Done, one),
-        (
-            ["run", "s"].as_slice(),
-            "1 record f20\n16 record f20\n",
-            Status::Done,
-            two,
-        ),
-        (
-            ["run", "s"].as_slice(),
-            "# \x01\n\n \t\n1\ta =  record f20\r\n",
-            Status::Done,
-            one,
-        ),
         ([].as_slice(), "", Status::Usage, ""),
         (["run"].as_slice(), "", Status::Usage, ""),
         (["run", "a", "b"].as_slice(), "", Status::Usage, ""),
         (["run", "-x"].as_slice(), "", Status::Usage, ""),
+        (["format", "--block"].as_slice(), "", Status::Usage, ""),
+        (
+            ["format", "--block", "08"].as_slice(),
+            "",
+            Status::Usage,
+            "",
+        ),
+        (
+            ["format", "--block", "4294967296"].as_slice(),
+            "",
+            Status::Usage,
+            "",
+        ),
+        (
+            ["format", "--block", "8", "--block", "8"].as_slice(),
+            "",
+            Status::Usage,
+            "",
+        ),
+        (["format"].as_slice(), "", Status::BadShape, ""),
+        (
+            ["format", "--lanes", "0", "--block", "12"].as_slice(),
+            "",
+            Status::BadShape,
+            "",
+        ),
         (["run", "gone"].as_slice(), "", absent, ""),
         (
             ["run", "s"].as_slice(),
             "1 sing a",
-            Status::BadScript(1),
-            "",
-        ),
-        (
-            ["run", "s"].as_slice(),
-            "1 length 1",
             Status::BadScript(1),
             "",
         ),
@@ -117,8 +121,5 @@ fn faults_are_told(rt: HostRuntime) -> Result<(), Fail> {
     let files = [("s", "1 record f20"), ("f20", "ABC")];
     let (ended, _) = shown(&rt, rt.alloc(), &["run", "s"], &files, &[2], &[])?;
     assert_eq!(rt; ended, Status::ShelfFault);
-    let (ended, printed) = shown(&rt, rt.alloc(), &["run", "s"], &files, &[], &[1])?;
-    assert_eq!(rt; ended, Status::SinkFault);
-    assert_eq!(rt; printed.len(), 0);
     Ok(())
 }

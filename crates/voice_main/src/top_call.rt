@@ -1,16 +1,22 @@
 //! The top call.
 
-ghost use Rattle.std.specs.Prelude.{ℕ, List, [], Some, ◌≡◌, ◌≤◌, ◌++◌, ◌⊎◌, IfOk, IfErr, IfSome, map, string_bytes, length, take};
+ghost use Rattle.std.specs.Prelude.{ℕ, List, [], Some, ◌≡◌, ◌≤◌, ◌++◌, ◌⊎◌, true, IfOk, IfErr, IfSome, IsTrue, map, string_bytes, length, take};
 ghost use Rattle.std.specs.Arc.{arc_value};
 ghost use Rattle.voice_model.specs.Text.{text_of};
 ghost use Rattle.voice_outside.specs.Counters.{HasRisen};
 ghost use Rattle.script_lang.specs.Shown.{Reading};
 ghost use Rattle.script_lang.specs.Verbs.{is_built_verb};
 ghost use Rattle.script_lang.specs.Whole.{IsWhole};
-ghost use Rattle.voice_main.specs.Words.{IsRefused};
-ghost use Rattle.voice_main.specs.Ran.{IsReady, IsExact, Stops, Serial, Comes, SoFar, Performs, IsEarly, load_status_of, script_status_of};
+ghost use Rattle.voice_main.specs.Words.{IsNoRun, IsFormat, IsRefused};
+ghost use Rattle.voice_outside.specs.Disk.{Now};
+ghost use Rattle.voice_main.specs.declared.options.FormatNumbers.{FormatNumbers as NumbersValue};
+ghost use Rattle.voice_main.specs.Formats.{Formats, FormatStatus};
+ghost use Rattle.voice_main.specs.Ran.{GoesOn, IsReady, Performed, SoFar};
+ghost use Rattle.voice_main.specs.Statuses.{Stops, Opens, Performs, RunComes, Comes, IsEarly, IsSilent, IsExact, IsComplete, load_status_of, open_status_of, script_status_of};
 
+use crate::format::format;
 use crate::load::{LoadError, file, files};
+use crate::options::format_numbers;
 use crate::output::print;
 use crate::script_lines::run_lines;
 use crate::status::Status;
@@ -21,7 +27,7 @@ use std::sync::{Arc, Wait};
 use std::thread::Threads;
 use voice_model::{Entry, Tapes};
 use voice_outside::{Disk, Gate, Shelf, Sink};
-use voice_store::Store;
+use voice_store::{OpenError, Store};
 
 /// How a run ended, with the disk and the history.
 #[derive(Drop)]
@@ -57,11 +63,21 @@ fn script_status(e: ScriptError) -> Status
     }
 }
 
+fn open_status(e: OpenError) -> Status
+    ensures { result ≡ open_status_of e }
+{
+    match e {
+        OpenError::BadDisk(place) => Status::BadDisk(place),
+        OpenError::DiskFault => Status::DiskFault,
+        OpenError::NoMemory => Status::NoMemory,
+    }
+}
+
 fn prepared<K: Shelf>(alloc: Global, words: &[String], shelf: &mut K) -> Result<Scripted, Status>
     ensures ready { IfOk result (λ s. IfSome (K.files shelf.old) (λ files. IsReady (map string_bytes words.now) files s.script (arc_value s.tapes))) }
     ensures whole { IfOk result (λ s. IsWhole is_built_verb s.script) }
     ensures there { IfOk result (λ s. length (arc_value s.tapes) ≡ length s.script.samples) }
-    ensures usage { IsRefused (map string_bytes words.now) → result ≡ Err Status.Usage }
+    ensures usage { IsNoRun (map string_bytes words.now) → result ≡ Err Status.Usage }
     ensures stops { IfErr result (Stops (map string_bytes words.now) (K.files shelf.old) (HasRisen (K.faults shelf.old) (K.faults shelf.new))) }
     ensures kept { K.files shelf.new ≡ K.files shelf.old }
     ensures later { K.faults shelf.old ≤ K.faults shelf.new }
@@ -87,6 +103,45 @@ fn prepared<K: Shelf>(alloc: Global, words: &[String], shelf: &mut K) -> Result<
     Ok(Scripted { script, tapes })
 }
 
+// The disk and the history that the calls of a script left.
+#[derive(Drop)]
+struct Called<D> {
+    disk: D,
+    history: Vec<Entry>,
+    is_finished: bool,
+}
+
+// Opens the disk's store, and makes the calls of a script.
+fn call_lines<D: Disk, G: Gate>(
+    alloc: Global,
+    scripted: &Scripted,
+    disk: D,
+    gate: &G,
+) -> Result<Called<D>, (Status, D)>
+    requires whole { IsWhole is_built_verb scripted.now.script }
+    requires there { length (arc_value scripted.now.tapes) ≡ length scripted.now.script.samples }
+    ensures so_far { IfOk result (λ called. (k : ℕ) × Performed (arc_value scripted.now.tapes) scripted.now.script.lines k (D.told disk) (D.told called.disk) called.history.items) }
+    ensures finished { IfOk result (λ called. called.is_finished ≡ true → Performed (arc_value scripted.now.tapes) scripted.now.script.lines (length scripted.now.script.lines) (D.told disk) (D.told called.disk) called.history.items) }
+    ensures opens { IfErr result (λ e. Opens (D.told disk) (D.told e.1) e.0) }
+    ensures goes { IfOk result (λ called. GoesOn (D.told disk) (D.told called.disk)) }
+    ensures goes_back { IfErr result (λ e. GoesOn (D.told disk) (D.told e.1)) }
+{
+    let Ok(tapes) = Arc::try_clone(&scripted.tapes) else {
+        return Err((Status::NoMemory, disk));
+    };
+    let mut store = match Store::open(alloc, disk, tapes) {
+        Ok(store) => store,
+        Err((e, disk)) => return Err((open_status(e), disk)),
+    };
+    let ran = run_lines(alloc, &mut store, &scripted.tapes, &scripted.script, gate);
+    let (disk, history) = store.close();
+    Ok(Called {
+        disk,
+        history,
+        is_finished: ran.is_ok(),
+    })
+}
+
 // Makes the calls of a script, and prints their history.
 fn perform<O: Sink, D: Disk, G: Gate>(
     alloc: Global,
@@ -97,45 +152,72 @@ fn perform<O: Sink, D: Disk, G: Gate>(
 ) -> Ended<D>
     requires whole { IsWhole is_built_verb scripted.now.script }
     requires there { length (arc_value scripted.now.tapes) ≡ length scripted.now.script.samples }
-    ensures serial { (k : ℕ) × Serial (arc_value scripted.now.tapes) scripted.now.script.lines k result.history.items }
-    ensures whole { result.status ≡ Status.Done → Serial (arc_value scripted.now.tapes) scripted.now.script.lines (length scripted.now.script.lines) result.history.items }
-    ensures sink_fault { result.status ≡ Status.SinkFault → Serial (arc_value scripted.now.tapes) scripted.now.script.lines (length scripted.now.script.lines) result.history.items }
-    ensures which { Performs (HasRisen (O.faults out.old) (O.faults out.new) ⊎ HasRisen (O.empty_takes out.old) (O.empty_takes out.new)) result.status }
+    ensures so_far { (result.history.items ≡ []) ⊎ ((k : ℕ) × Performed (arc_value scripted.now.tapes) scripted.now.script.lines k (D.told disk) (D.told result.disk) result.history.items) }
+    ensures whole { result.status ≡ Status.Done → Performed (arc_value scripted.now.tapes) scripted.now.script.lines (length scripted.now.script.lines) (D.told disk) (D.told result.disk) result.history.items }
+    ensures sink_fault { result.status ≡ Status.SinkFault → Performed (arc_value scripted.now.tapes) scripted.now.script.lines (length scripted.now.script.lines) (D.told disk) (D.told result.disk) result.history.items }
+    ensures which { Performs (HasRisen (O.faults out.old) (O.faults out.new) ⊎ HasRisen (O.empty_takes out.old) (O.empty_takes out.new)) (D.told disk) (D.told result.disk) result.status }
     ensures done { result.status ≡ Status.Done → IfSome (O.contents out.old) (λ had. O.contents out.new ≡ Some (had ++ text_of result.history.items)) }
     ensures prefix { IfSome (O.contents out.old) (λ had. (n : ℕ) × (O.contents out.new ≡ Some (had ++ take n (text_of result.history.items)))) }
-    ensures disk { result.disk ≡ disk }
+    ensures silent { IsSilent result.status → (result.history.items ≡ []) × (O.contents out.new ≡ O.contents out.old) }
+    ensures goes { GoesOn (D.told disk) (D.told result.disk) }
 {
-    let Ok(tapes) = Arc::try_clone(&scripted.tapes) else {
-        return Ended {
-            status: Status::NoMemory,
+    let called = match call_lines(alloc, scripted, disk, gate) {
+        Ok(called) => called,
+        Err((status, disk)) => return Ended {
+            status,
             disk,
             history: Vec::new(alloc),
-        };
+        },
     };
-    let mut store = match Store::open(alloc, disk, tapes) {
-        Ok(store) => store,
-        Err((_, disk)) => {
-            return Ended {
-                status: Status::NoMemory,
-                disk,
-                history: Vec::new(alloc),
-            };
-        }
-    };
-    let ran = run_lines(alloc, &mut store, &scripted.tapes, &scripted.script, gate);
-    let (disk, history) = store.close();
-    if ran.is_err() {
+    if !called.is_finished {
         return Ended {
             status: Status::NoMemory,
-            disk,
-            history,
+            disk: called.disk,
+            history: called.history,
         };
     }
-    let status = print(alloc, &history, out);
+    let status = print(alloc, &called.history, out);
     Ended {
         status,
-        disk,
-        history,
+        disk: called.disk,
+        history: called.history,
+    }
+}
+
+// Runs the script that the words name.
+fn run_script<K: Shelf, O: Sink, D: Disk, G: Gate>(
+    alloc: Global,
+    words: &[String],
+    shelf: &mut K,
+    out: &mut O,
+    disk: D,
+    gate: &G,
+) -> Ended<D>
+    // Which words are refused.
+    ensures usage { IsNoRun (map string_bytes words.now) → result.status ≡ Status.Usage }
+    // When each status comes.
+    ensures comes { RunComes (map string_bytes words.now) (K.files shelf.old)
+        (HasRisen (K.faults shelf.old) (K.faults shelf.new))
+        (HasRisen (O.faults out.old) (O.faults out.new) ⊎ HasRisen (O.empty_takes out.old) (O.empty_takes out.new))
+        (D.told disk) (D.told result.disk) result.history.items result.status }
+    // A finished run prints the text of its history and nothing else.
+    ensures done { result.status ≡ Status.Done → IfSome (O.contents out.old) (λ had. O.contents out.new ≡ Some (had ++ text_of result.history.items)) }
+    // What stands after any status.
+    ensures prefix { IfSome (O.contents out.old) (λ had. (n : ℕ) × (O.contents out.new ≡ Some (had ++ take n (text_of result.history.items)))) }
+    ensures so_far { SoFar (map string_bytes words.now) (K.files shelf.old) (D.told disk) (D.told result.disk) result.history.items }
+    ensures files { K.files shelf.new ≡ K.files shelf.old }
+    // A status that is decided before the first call leaves no history and prints nothing; one that is decided before the disk is touched leaves the disk.
+    ensures silent { IsSilent result.status → (result.history.items ≡ []) × (O.contents out.new ≡ O.contents out.old) }
+    ensures early { IsEarly result.status → result.disk ≡ disk }
+    ensures disk { GoesOn (D.told disk) (D.told result.disk) }
+{
+    match prepared(alloc, words, shelf) {
+        Ok(scripted) => perform(alloc, &scripted, out, disk, gate),
+        Err(status) => Ended {
+            status,
+            disk,
+            history: Vec::new(alloc),
+        },
     }
 }
 
@@ -154,25 +236,29 @@ fn carry_out<K: Shelf, O: Sink, D: Disk, G: Gate>(
     ensures comes { Comes (map string_bytes words.now) (K.files shelf.old)
         (HasRisen (K.faults shelf.old) (K.faults shelf.new))
         (HasRisen (O.faults out.old) (O.faults out.new) ⊎ HasRisen (O.empty_takes out.old) (O.empty_takes out.new))
-        result.history.items result.status }
+        (D.told disk) (D.told result.disk) result.history.items result.status }
     // A finished run prints the text of its history and nothing else.
     ensures done { result.status ≡ Status.Done → IfSome (O.contents out.old) (λ had. O.contents out.new ≡ Some (had ++ text_of result.history.items)) }
     // What stands after any status.
     ensures prefix { IfSome (O.contents out.old) (λ had. (n : ℕ) × (O.contents out.new ≡ Some (had ++ take n (text_of result.history.items)))) }
-    ensures so_far { SoFar (map string_bytes words.now) (K.files shelf.old) result.history.items }
+    ensures so_far { SoFar (map string_bytes words.now) (K.files shelf.old) (D.told disk) (D.told result.disk) result.history.items }
     ensures files { K.files shelf.new ≡ K.files shelf.old }
-    // A status that is decided before the first call leaves no history.
-    ensures early { IsEarly result.status → result.history.items ≡ [] }
-    // No device call is made yet.
-    ensures disk { result.disk ≡ disk }
+    // A status that is decided before the first call leaves no history and prints nothing; one that is decided before the disk is touched leaves the disk.
+    ensures silent { IsSilent result.status → (result.history.items ≡ []) × (O.contents out.new ≡ O.contents out.old) }
+    ensures early { IsEarly result.status → result.disk ≡ disk }
+    ensures disk { GoesOn (D.told disk) (D.told result.disk) }
+    // What a `format` answers and leaves.
+    ensures format { (numbers : NumbersValue) → IsFormat (map string_bytes words.now) numbers → FormatStatus numbers (D.told disk) (D.told result.disk) result.status }
+    ensures formatted { (numbers : NumbersValue) → IsFormat (map string_bytes words.now) numbers → result.status ≡ Status.Done → IsTrue (D.told disk).honest → Now (D.told result.disk) (Formats numbers (D.told disk).bytes) }
 {
-    match prepared(alloc, words, shelf) {
-        Ok(scripted) => perform(alloc, &scripted, out, disk, gate),
-        Err(status) => Ended {
-            status,
-            disk,
-            history: Vec::new(alloc),
-        },
+    let Some(numbers) = format_numbers(words) else {
+        return run_script(alloc, words, shelf, out, disk, gate);
+    };
+    let (status, disk) = format(disk, numbers);
+    Ended {
+        status,
+        disk,
+        history: Vec::new(alloc),
     }
 }
 
@@ -188,29 +274,33 @@ pub fn run<R: Threads + Wait + Sync, K: Shelf, O: Sink, D: Disk, G: Gate>(
 ) -> Ended<D>
     // Which words are refused.
     ensures usage { IsRefused (map string_bytes words.now) → result.status ≡ Status.Usage }
-    // When each status comes.
+    // When each status comes. Of `Done` this says that the history is legal from the state that the disk was opened in, in the order of the lines, each caller's entries following its lines, and what a crash may leave of it.
     ensures comes { Comes (map string_bytes words.now) (K.files shelf.old)
         (HasRisen (K.faults shelf.old) (K.faults shelf.new))
         (HasRisen (O.faults out.old) (O.faults out.new) ⊎ HasRisen (O.empty_takes out.old) (O.empty_takes out.new))
-        result.history.items result.status }
-    // What the words and the files decide comes, but for a fault of the shelf and want of memory.
-    ensures exact { IfSome (K.files shelf.old) (λ files. IsExact (map string_bytes words.now) files result.status) }
+        (D.told disk) (D.told result.disk) result.history.items result.status }
+    // What the words, the files and the disk's bytes decide comes, but for faults and want of memory.
+    ensures exact { IfSome (K.files shelf.old) (λ files. IsExact (map string_bytes words.now) files (D.told disk) result.status) }
     // Where all is there and no count rose, the run is done, or memory was wanted.
-    ensures complete { IfSome (K.files shelf.old) (λ files. (script : Reading) (tapes : List (List ℕ)) → IsReady (map string_bytes words.now) files script tapes
-        → (HasRisen (K.faults shelf.old) (K.faults shelf.new) → ⊥)
-        → (HasRisen (O.faults out.old) (O.faults out.new) ⊎ HasRisen (O.empty_takes out.old) (O.empty_takes out.new) → ⊥)
-        → (result.status ≡ Status.Done) ⊎ (result.status ≡ Status.NoMemory)) }
+    ensures complete { IfSome (K.files shelf.old) (λ files. IsComplete (map string_bytes words.now) files
+        (HasRisen (K.faults shelf.old) (K.faults shelf.new))
+        (HasRisen (O.faults out.old) (O.faults out.new) ⊎ HasRisen (O.empty_takes out.old) (O.empty_takes out.new))
+        (D.told disk) (D.told result.disk) result.history.items result.status) }
     // A finished run prints the text of its history and nothing else.
     ensures done { result.status ≡ Status.Done → IfSome (O.contents out.old) (λ had. O.contents out.new ≡ Some (had ++ text_of result.history.items)) }
     // What stands after any status.
     ensures prefix { IfSome (O.contents out.old) (λ had. (n : ℕ) × (O.contents out.new ≡ Some (had ++ take n (text_of result.history.items)))) }
-    ensures so_far { SoFar (map string_bytes words.now) (K.files shelf.old) result.history.items }
+    ensures so_far { SoFar (map string_bytes words.now) (K.files shelf.old) (D.told disk) (D.told result.disk) result.history.items }
     // No file changes.
     ensures files { K.files shelf.new ≡ K.files shelf.old }
-    // A status that is decided before the first call leaves no history.
-    ensures early { IsEarly result.status → result.history.items ≡ [] }
-    // No device call is made yet.
-    ensures disk { result.disk ≡ disk }
+    // A status that is decided before the first call leaves no history and prints nothing; one that is decided before the disk is touched leaves the disk.
+    ensures silent { IsSilent result.status → (result.history.items ≡ []) × (O.contents out.new ≡ O.contents out.old) }
+    ensures early { IsEarly result.status → result.disk ≡ disk }
+    // The disk keeps its size, and its counts never fall.
+    ensures disk { GoesOn (D.told disk) (D.told result.disk) }
+    // What a `format` answers and leaves.
+    ensures format { (numbers : NumbersValue) → IsFormat (map string_bytes words.now) numbers → FormatStatus numbers (D.told disk) (D.told result.disk) result.status }
+    ensures formatted { (numbers : NumbersValue) → IsFormat (map string_bytes words.now) numbers → result.status ≡ Status.Done → IsTrue (D.told disk).honest → Now (D.told result.disk) (Formats numbers (D.told disk).bytes) }
 {
     carry_out(alloc, words, shelf, out, disk, gate)
 }

@@ -2,7 +2,7 @@
 
 ghost use Rattle.std.specs.Prelude.{◌≡◌, MatchOption, map, string_bytes, true, false};
 ghost use Rattle.script_lang.specs.Forms.{is_file};
-ghost use Rattle.voice_main.specs.Words.{IsRun, IsRefused};
+ghost use Rattle.voice_main.specs.Words.{IsRun, IsNoRun};
 
 use script_lang::is_file;
 use voice_units::Name;
@@ -22,7 +22,7 @@ fn file_name(bytes: &[u8]) -> Option<Name>
 
 /// The script that the words `run NAME` name; `None` exactly for other words.
 pub fn script_name(words: &[String]) -> Option<Name>
-    ensures { MatchOption result (IsRefused (map string_bytes words.now)) (IsRun (map string_bytes words.now)) }
+    ensures { MatchOption result (IsNoRun (map string_bytes words.now)) (IsRun (map string_bytes words.now)) }
 {
     let [verb, name] = words else {
         return None;

@@ -282,6 +282,10 @@ is_asked_of _ = true
 -- Whether the store can do the call yet. It grows with the store, and goes when all calls are built.
 abbrev pub is_built_of : Call → Bool
 is_built_of (calls.Record take) = true
+is_built_of (calls.Concat ropes) = true
+is_built_of (calls.Sub rope start len) = true
+is_built_of (calls.Replace rope start len with) = true
+is_built_of (calls.Length rope) = true
 is_built_of _ = false
 
 -- ---- faults and doubt

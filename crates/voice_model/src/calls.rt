@@ -157,6 +157,13 @@ impl Call {
     pub fn is_built(&self) -> bool
         ensures { result ≡ is_built_of self.now }
     {
-        matches!(self, Call::Record(_))
+        matches!(
+            self,
+            Call::Record(..)
+                | Call::Concat(..)
+                | Call::Sub(..)
+                | Call::Replace(..)
+                | Call::Length(..)
+        )
     }
 }

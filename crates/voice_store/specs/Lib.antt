@@ -1,3 +1,6 @@
-pub mod Recording
-pub mod Kept
+pub mod Facts
+pub mod Keeping
 pub mod Shown
+pub mod Stood
+pub mod Trying
+pub mod Ways

@@ -1,6 +1,18 @@
-//! The store: one call at a time, and the history of all calls. So far it records, over no disk: a recording is kept in memory, and nothing outlives the program.
+//! The store: one call at a time over a disk, the history of all calls, and what a crash may leave of it.
 #![tactic(auto)]
 
+mod applying;
+mod committing;
+mod editing;
+mod entering;
+mod inside;
+mod landing;
+mod opening;
+mod recording;
+mod refusing;
 mod store;
+mod ways;
 
-pub use store::{OpenError, Store};
+pub use inside::{Doubted, Inside};
+pub use store::Store;
+pub use voice_journal::OpenError;

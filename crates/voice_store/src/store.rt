@@ -1,174 +1,125 @@
-//! A store of recordings in memory.
+//! The store.
 
-ghost use Rattle.std.specs.Prelude.{ℕ, List, [], ◌∷◌, ◌++◌, ◌≡◌, ◌≤◌, ◌<◌, ◌+◌, ◌^◌, IsTrue, IsNone, IfOk, IfErr, OnOk, OnErr, length};
+ghost use Rattle.std.specs.Prelude.{◌≡◌, ◌≤◌, ◌+◌, ◌-◌, ◌⊎◌, ℕ, [], Some, IsTrue, IfOk, IfErr, OnOk, OnErr};
 ghost use Rattle.std.specs.Arc.{arc_value};
-ghost use Rattle.voice_model.specs.Step.{is_asked_of, is_built_of};
-ghost use Rattle.voice_model.specs.Tapes.{HasTake};
-ghost use Rattle.voice_store.specs.Recording.{opened, refusal_of, reply_by, after_bytes, TakesAreIn};
-ghost use Rattle.voice_store.specs.Kept.{bytes_of, state_of};
-ghost use Rattle.voice_store.specs.Shown.{Adds};
+ghost use Rattle.voice_outside.specs.Counters.{HasRisen};
+ghost use Rattle.voice_outside.specs.Disk.{MakesAtMost, Now};
+ghost use Rattle.voice_journal.specs.Readings.{extent};
+ghost use Rattle.voice_journal.specs.Formatted.{IsFormatted, SameButHeads};
+ghost use Rattle.voice_model.specs.State.{State};
+ghost use Rattle.voice_model.specs.Image.{Reading, reading, opened_from};
+ghost use Rattle.voice_store.specs.Shown.{Stands};
+ghost use Rattle.voice_store.specs.Facts.{Adds, AddsLanding, Goes, IsFault, TakesAreIn, HasRopes, is_built, most_calls};
 
-use std::alloc::{AllocError, Global};
+use crate::inside::Inside;
+use std::alloc::Global;
 use std::marker::Model;
+use std::snapshot::Snapshot;
 use std::sync::Arc;
-use voice_model::{Call, Entry, Reply, Tapes, Why};
+use voice_journal::{Journal, OpenError};
+use voice_model::{Call, Entry, Reply, Tapes};
 use voice_outside::Disk;
-use voice_units::{NoMemory, RopeId, Take};
+use voice_units::{Failed, NoMemory, Shape};
 
-/// Why a store couldn't be opened.
-#[derive(Clone, Copy, Debug, PartialEq, Eq)]
-pub enum OpenError {
-    NoMemory,
-}
-
-// The most samples of a rope.
-const LONGEST: usize = 1 << 30;
-
-// The greatest number of a rope.
-const LAST_ROPE: u64 = 1 << 48;
-
-/// Recordings over a disk that is not touched yet, and the history of the calls. Contracts see the disk, the tapes, the state and the history.
+/// The voice manager's store over a disk: the calls of several callers, one at a time, and the history of them. Contracts see the disk, the disk as it was opened, the tapes and the history; the state is that of the history, from what the disk's bytes were as it was opened.
 #[derive(Drop)]
 pub struct Store<D: Disk> {
-    alloc: Global,
     disk: D,
-    tapes: Arc<Tapes, Global>,
-    recordings: Vec<Vec<u8>>,
-    history: Vec<Entry>,
+    origin: Snapshot<D>,
+    inside: Inside,
 }
 
 impl<D: Disk> Model for Store<D> {
-    ghost use Rattle.std.specs.Prelude.{length, ◌≤◌, ◌^◌};
     ghost use Rattle.std.specs.Arc.{arc_value};
-    ghost use Rattle.voice_store.specs.Shown.{Shown};
-    ghost use Rattle.voice_store.specs.Kept.{bytes_of, state_of};
+    ghost use Rattle.voice_store.specs.Shown.{Shown, IsWhole};
 
     ghost Value = { Shown D };
 
-    ghost view = { λ s. record { disk = s.disk; tapes = arc_value s.tapes; state = state_of (bytes_of s.recordings.items); history = s.history.items } };
+    ghost view = { λ s. record { disk = s.disk; origin = s.origin.value; tapes = arc_value s.inside.tapes; history = s.inside.history.items; inside = s.inside } };
 
-    ghost invariant = { λ s. length s.recordings.items ≤ 2 ^ 48 };
-}
-
-// Why a recording of so many samples is refused, where the next rope has that number.
-fn refusal(next: u64, len: usize) -> Option<Why>
-    ensures value { result ≡ refusal_of next len }
-    ensures numbered { IsNone result → next ≤ 2 ^ 48 }
-{
-    if len > LONGEST {
-        return Some(Why::TooLong(len as u64));
-    }
-    if next > LAST_ROPE {
-        return Some(Why::IdsSpent);
-    }
-    None
-}
-
-// The number of the next rope.
-fn next_rope(recordings: &[Vec<u8>]) -> u64
-    requires { length recordings.now ≤ 2 ^ 48 }
-    ensures value { result ≡ (state_of (bytes_of recordings.now)).next }
-    ensures count { result ≡ length recordings.now + 1 }
-{
-    recordings.len() as u64 + 1
-}
-
-// The reply to a recording of so many samples, where the next rope has that number.
-fn reply_to(next: u64, len: u32) -> Reply
-    ensures { result ≡ reply_by (refusal_of next len) next len }
-{
-    match refusal(next, len as usize) {
-        Some(why) => Reply::No(why),
-        None => Reply::Rope(RopeId(next), len),
-    }
-}
-
-// Keeps a recording, unless it is refused. After an error nothing is kept.
-fn keep(alloc: Global, recordings: &mut Vec<Vec<u8>>, samples: &[u8]) -> Result<(), AllocError>
-    requires { length recordings.old.items ≤ 2 ^ 48 }
-    ensures ok { OnOk result (state_of (bytes_of recordings.new.items) ≡ after_bytes (state_of (bytes_of recordings.old.items)) samples.now) }
-    ensures err { OnErr result (recordings.new.items ≡ recordings.old.items) }
-    ensures few { length recordings.new.items ≤ 2 ^ 48 }
-{
-    if refusal(next_rope(recordings), samples.len()).is_some() {
-        return Ok(());
-    }
-    recordings.push(samples.to_vec(alloc)?)?;
-    Ok(())
+    ghost invariant = { λ s. IsWhole (D.told s.origin.value) (D.told s.disk) s.inside };
 }
 
 impl<D: Disk> Store<D> {
-    /// The store of a disk without a rope: no rope, and the next rope has number 1. It makes no device call. An `Err` hands the disk back.
-    pub fn open(
-        alloc: Global,
-        disk: D,
-        tapes: Arc<Tapes, Global>,
-    ) -> Result<Store<D>, (OpenError, D)>
-        ensures ok { IfOk result (λ s. (s.disk ≡ disk) × (s.tapes ≡ arc_value tapes) × (s.state ≡ opened) × (s.history ≡ [])) }
-        ensures err { IfErr result (λ e. e.1 ≡ disk) }
+    /// Formats a disk for a shape. After `Failed` nothing is known of it, and it has to be formatted again.
+    pub fn format(disk: &mut D, shape: &Shape) -> Result<(), Failed>
+        requires { extent shape.now ≤ (D.told disk.old).size }
+        ensures made { MakesAtMost 3 (D.told disk.old) (D.told disk.new) result }
+        ensures ok { IsTrue (D.told disk.old).honest → OnOk result (Now (D.told disk.new) (IsFormatted shape.now (D.told disk.old).bytes)) }
+        ensures bytes { IsTrue (D.told disk.old).honest → SameButHeads shape.now (D.told disk.old).bytes (D.told disk.new).bytes }
     {
-        Ok(Store {
-            alloc,
-            disk,
-            tapes,
-            recordings: Vec::new(alloc),
-            history: Vec::new(alloc),
-        })
+        Journal::format(disk, shape)
     }
 
-    /// Makes a call for a caller, and adds its entry to the history with the disk's number of calls as its ack. After `NoMemory` all is as before.
-    pub fn apply(&mut self, caller: u16, call: Call) -> Result<Reply, NoMemory>
-        requires asked { IsTrue (is_asked_of call) }
-        requires built { IsTrue (is_built_of call) }
-        requires takes { TakesAreIn self.old.tapes call }
-        requires caller_least { 1 ≤ caller }
-        requires caller_most { caller ≤ 16 }
-        ensures ok { IfOk result (λ reply. Adds self.old self.new (record { caller = caller; call = call; reply = reply; ack = (D.told self.old.disk).calls })) }
-        ensures err { OnErr result (self.new ≡ self.old) }
+    /// Opens the store of a disk, with an empty history. `BadDisk` comes exactly where the disk's bytes have damage, with the place of the first. An `Err` hands the disk back. It makes at most 5 device calls, and changes nothing.
+    pub fn open(
+        alloc: Global,
+        mut disk: D,
+        tapes: Arc<Tapes, Global>,
+    ) -> Result<Store<D>, (OpenError, D)>
+        ensures ok { IfOk result (λ s. (s.origin ≡ disk) × (s.tapes ≡ arc_value tapes) × (s.history ≡ []) × Goes 5 (D.told disk) (D.told s.disk)) }
+        // The opened state is what the disk's bytes recover.
+        ensures state { IfOk result (λ s. (first : State) × Stands first (D.told s.origin) (D.told s.disk) s.inside × (IsTrue (D.told disk).honest → opened_from (D.told disk).bytes ≡ Some first)) }
+        ensures goes { IfErr result (λ e. Goes 5 (D.told disk) (D.told e.1)) }
+        ensures bad { IfErr result (λ e. (place : ℕ) → e.0 ≡ OpenError.BadDisk place → IsTrue (D.told disk).honest → reading (D.told disk).bytes ≡ Reading.Bad place) }
+        ensures fault { IfErr result (λ e. e.0 ≡ OpenError.DiskFault → HasRisen (D.told disk).faults (D.told e.1).faults) }
     {
-        match call {
-            Call::Record(take) => self.record(caller, take),
-            _ => unreachable!(),
+        let origin = Snapshot::of(&disk);
+        match Inside::open(alloc, &mut disk, tapes) {
+            Ok(inside) => Ok(Store {
+                disk,
+                origin,
+                inside,
+            }),
+            Err(e) => Err((e, disk)),
         }
     }
 
-    fn record(&mut self, caller: u16, take: Take) -> Result<Reply, NoMemory>
-        requires { HasTake self.old.tapes take }
-        ensures ok { IfOk result (λ reply. Adds self.old self.new (record { caller = caller; call = Call.Record take; reply = reply; ack = (D.told self.old.disk).calls })) }
-        ensures err { OnErr result (self.new ≡ self.old) }
+    /// Makes a call for a caller, and adds its entry to the history, after a landing where a change was in doubt and the call is of a kind that makes changes. After `NoMemory` nothing of the call is done, but a change in doubt may have landed.
+    pub fn apply(&mut self, caller: u16, call: Call) -> Result<Reply, NoMemory>
+        requires built { IsTrue (is_built call) }
+        requires takes { TakesAreIn self.old.tapes call }
+        requires ropes { HasRopes call }
+        requires caller_least { 1 ≤ caller }
+        requires caller_most { caller ≤ 16 }
+        ensures entry { IfOk result (λ reply. Adds caller call reply (D.told self.new.disk).calls self.old.history self.new.history) }
+        ensures err { OnErr result (AddsLanding self.old.history self.new.history) }
+        // The history stays legal, and what a crash may leave since an entry is that entry's state or a later one.
+        ensures state { (first : State) → Stands first (D.told self.old.origin) (D.told self.old.disk) self.old.inside → Stands first (D.told self.new.origin) (D.told self.new.disk) self.new.inside }
+        ensures cause { IfOk result (λ reply. IsFault reply → HasRisen (D.told self.old.disk).faults (D.told self.new.disk).faults) }
+        ensures goes { Goes (most_calls self.old.inside.journal.shape.block call) (D.told self.old.disk) (D.told self.new.disk) }
+        ensures origin { self.new.origin ≡ self.old.origin }
+        ensures tapes { self.new.tapes ≡ self.old.tapes }
     {
-        self.history.reserve(1)?;
-        let next = next_rope(&self.recordings);
-        keep(self.alloc, &mut self.recordings, self.tapes.samples(take))?;
-        let entry = Entry {
-            caller,
-            call: Call::Record(take),
-            reply: reply_to(next, take.len),
-            ack: self.disk.calls(),
-        };
-        self.history.push(entry).unwrap();
-        Ok(reply_to(next, take.len))
+        self.inside.apply(&mut self.disk, caller, call)
     }
 
     /// The calls so far, in order.
     pub fn history(&self) -> &[Entry]
         ensures { result.now ≡ self.now.history }
     {
-        &self.history
+        &self.inside.history
+    }
+
+    /// How many lanes there are.
+    pub fn lanes(&self) -> u16
+        ensures { result ≡ self.now.inside.journal.shape.lanes }
+    {
+        self.inside.journal.shape().lanes
     }
 
     /// Hands the disk and the history back.
     pub fn close(self) -> (D, Vec<Entry>)
         ensures disk { result.0 ≡ self.disk }
         ensures history { result.1.items ≡ self.history }
+        // What contracts see of a store is what it keeps.
+        ensures inside { (self.inside.history.items ≡ self.history) × (arc_value self.inside.tapes ≡ self.tapes) }
     {
         let Store {
-            alloc: _,
             disk,
-            tapes: _,
-            recordings: _,
-            history,
+            origin: _,
+            inside,
         } = self;
-        (disk, history)
+        (disk, inside.history)
     }
 }

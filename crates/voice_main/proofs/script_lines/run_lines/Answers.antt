@@ -1,47 +1,58 @@
-use Rattle.std.proofs.Common.{◌≡◌, ℕ, ◌<◌, ◌∙◌, List, length, get_or, ap, sym, subst, Option, arith}
-use Rattle.voice_model.specs.declared.calls.Call.{Call}
-use Rattle.voice_model.specs.declared.calls.Entry.{Entry}
-use Rattle.voice_model.specs.Follows.{value_of}
-use Rattle.voice_store.specs.Recording.{TakesAreIn}
+use Rattle.std.proofs.Common.{◌≡◌, ◌<◌, ◌∙◌, ◌-◌, length, get_or, ap, subst, refl, arith, rules}
+use Rattle.std.proofs.lemmas.List.{take_all, length-set}
 use Rattle.script_lang.specs.Shown.{Reading}
-use Rattle.voice_main.proofs.Built.{built_records, asks_something, takes, line_at}
-use Rattle.voice_main.proofs.Followed.{legal-more, after-more, order-more}
+use Rattle.script_lang.specs.Verbs.{is_built_verb}
+use Rattle.script_lang.specs.Whole.{IsLineOf}
+use Rattle.voice_main.specs.Ordered.{InOrder, asked_entries, unset}
+use Rattle.voice_main.proofs.Followed.{none_reached, reached, reached_more, reached_so_far, line_has}
+use Rattle.voice_main.proofs.Going.{rests, goes_further}
 use Rattle.voice_main.proofs.script_lines.run_lines.Goals as goal
 
-pub unreachable-requires : goal.unreachable-requires
-unreachable-requires g c =
-    let lines : c.deref-line-items.result.now ≡ c.args.script.now.lines = c.deref-line-items.ensures.value ∙ ap (λ (s : Reading). s.lines) c.script.view_is in
-    let within : c.loop-line.line-index < length c.args.script.now.lines = omega (arith, c.loop-line-test.true, ap length lines) in
-    let is : c.line-item.result ≡ get_or c.args.script.now.lines c.loop-line.line-index c.line-item.result = c.line-item.is ∙ ap (λ ls. get_or ls c.loop-line.line-index c.line-item.result) lines in
-    let facts = line_at (length c.args.script.now.samples) c.args.script.now.callers c.args.script.now.lines c.loop-line.line-index c.line-item.result c.requires.lines.lines within is in
-    let asks = c.in_ok-call.ensures.value _ (λ name. ap (λ e. value_of e name) c.new-variables.ensures) in
-    asks_something c.args.tapes.now c.line-item.result.verb (built_records c.line-item.result.verb facts.verb) (sym asks ∙ c.in_default.is)
+pub loop-line-init : goal.loop-line-init
+loop-line-init g c = record {
+  tapes = c.requires.tapes;
+  origin = refl;
+  stands = λ first h. h;
+  goes = rests (g.D.Disk.told c.args.store.now.disk);
+  callers = c.in_ok-variables.ensures.len ∙ ap (λ (s : Reading). s.callers) c.script.view_is;
+  reaches = none_reached c.args.tapes.now c.args.script.now.lines c.args.store.now.history c.in_ok-variables.variables.items c.requires.history c.in_ok-variables.ensures.unset;
+}
 
-pub apply-requires-clause-takes : goal.apply-requires-clause-takes
-apply-requires-clause-takes g c κs within_lives =
+pub returns-in_err-run_line-clause-stands : goal.returns-in_err-run_line-clause-stands
+returns-in_err-run_line-clause-stands g c = λ first h. c.in_err-run_line.ensures.stands first (c.loop-line.invariant.stands first h)
+
+pub returns-in_err-run_line-clause-so_far : goal.returns-in_err-run_line-clause-so_far
+returns-in_err-run_line-clause-so_far g c =
     let lines : c.deref-line-items.result.now ≡ c.args.script.now.lines = c.deref-line-items.ensures.value ∙ ap (λ (s : Reading). s.lines) c.script.view_is in
     let within : c.loop-line.line-index < length c.args.script.now.lines = omega (arith, c.loop-line-test.true, ap length lines) in
     let is : c.line-item.result ≡ get_or c.args.script.now.lines c.loop-line.line-index c.line-item.result = c.line-item.is ∙ ap (λ ls. get_or ls c.loop-line.line-index c.line-item.result) lines in
-    let facts = line_at (length c.args.script.now.samples) c.args.script.now.callers c.args.script.now.lines c.loop-line.line-index c.line-item.result c.requires.lines.lines within is in
-    let asks = c.in_ok-call.ensures.value _ (λ name. ap (λ e. value_of e name) c.new-variables.ensures) in
-    let P : List (List ℕ) → Type 0 = λ tapes. TakesAreIn tapes c.in-Some.call in
-    subst P (sym c.loop-line.invariant.tapes)
-    (takes c.args.tapes.now (length c.args.script.now.samples) c.line-item.result.verb c.in-Some.call (built_records c.line-item.result.verb facts.verb) (sym c.in-Some.is ∙ asks) facts.tape c.requires.samples)
+    let facts = line_has (IsLineOf is_built_verb (length c.args.script.now.samples) c.args.script.now.callers) c.args.script.now.lines c.loop-line.line-index c.line-item.result c.requires.lines.lines within is in
+    let there : c.index_mut-own.result.now ≡ get_or c.loop-line.variables.items (c.line-item.result.caller - 1) c.index_mut-own.result.now = search rules in
+    reached_so_far c.args.tapes.now c.args.script.now.lines c.loop-line.line-index c.line-item.result c.loop-line.store.history c.run_line.new.store.history c.loop-line.variables.items (c.line-item.result.caller - 1) c.index_mut-own.result.now within is
+    (omega (arith, facts.least)) (omega (arith, facts.least, facts.most, c.loop-line.invariant.callers)) there c.loop-line.invariant.reaches c.in_err-run_line.ensures.ran
 
 pub loop-line-preserved : goal.loop-line-preserved
 loop-line-preserved g c =
     let lines : c.deref-line-items.result.now ≡ c.args.script.now.lines = c.deref-line-items.ensures.value ∙ ap (λ (s : Reading). s.lines) c.script.view_is in
     let within : c.loop-line.line-index < length c.args.script.now.lines = omega (arith, c.loop-line-test.true, ap length lines) in
     let is : c.line-item.result ≡ get_or c.args.script.now.lines c.loop-line.line-index c.line-item.result = c.line-item.is ∙ ap (λ ls. get_or ls c.loop-line.line-index c.line-item.result) lines in
-    let asks = c.in_ok-call.ensures.value _ (λ name. ap (λ e. value_of e name) c.new-variables.ensures) in
-    let adds = c.in_ok-apply.ensures.ok in
-    let entry : Entry = record { caller = c.line-item.result.caller; call = c.in-Some.call; reply = c.in_ok-apply.field-0; ack = (g.D.Disk.told c.loop-line.store.disk).calls } in
-    let by_caller : Option Call → ℕ × Option Call = λ call. (c.line-item.result.caller, call) in
-    let same = ap by_caller (sym c.in-Some.is ∙ asks) in
+    let facts = line_has (IsLineOf is_built_verb (length c.args.script.now.samples) c.args.script.now.callers) c.args.script.now.lines c.loop-line.line-index c.line-item.result c.requires.lines.lines within is in
+    let there : c.index_mut-own.result.now ≡ get_or c.loop-line.variables.items (c.line-item.result.caller - 1) c.index_mut-own.result.now = search rules in
     record {
-      tapes = adds.tapes ∙ c.loop-line.invariant.tapes;
-      legal = legal-more c.loop-line.store.state c.args.tapes.now c.loop-line.store.tapes c.loop-line.store.history c.apply.new.self.history entry c.loop-line.invariant.tapes c.loop-line.invariant.state c.loop-line.invariant.legal adds.answer adds.history;
-      state = after-more c.loop-line.store.state c.apply.new.self.state c.args.tapes.now c.loop-line.store.tapes c.loop-line.store.history c.apply.new.self.history entry c.loop-line.invariant.tapes c.loop-line.invariant.state adds.state adds.history;
-      disk = adds.disk ∙ c.loop-line.invariant.disk;
-      order = order-more c.args.tapes.now c.args.script.now.lines c.loop-line.line-index c.line-item.result c.loop-line.store.history c.apply.new.self.history entry within is same c.loop-line.invariant.order adds.history;
+      tapes = c.in_ok-run_line.ensures.tapes_stay ∙ c.loop-line.invariant.tapes;
+      origin = c.in_ok-run_line.ensures.origin ∙ c.loop-line.invariant.origin;
+      stands = λ first h. c.in_ok-run_line.ensures.stands first (c.loop-line.invariant.stands first h);
+      goes = goes_further (g.D.Disk.told c.args.store.now.disk) (g.D.Disk.told c.loop-line.store.disk) (g.D.Disk.told c.run_line.new.store.disk) c.loop-line.invariant.goes c.in_ok-run_line.ensures.goes;
+      callers = length-set c.loop-line.variables.items (c.line-item.result.caller - 1) c.run_line.new.variables ∙ c.loop-line.invariant.callers;
+      reaches = reached_more c.args.tapes.now c.args.script.now.lines c.loop-line.line-index c.line-item.result c.loop-line.store.history c.run_line.new.store.history c.loop-line.variables.items (c.line-item.result.caller - 1) c.index_mut-own.result.now c.run_line.new.variables within is
+          (omega (arith, facts.least)) (omega (arith, facts.least, facts.most, c.loop-line.invariant.callers)) there c.loop-line.invariant.reaches c.in_ok-run_line.ensures.ok;
     }
+
+pub returns-clause-whole : goal.returns-clause-whole
+returns-clause-whole g c =
+    let lines : c.deref-line-items.result.now ≡ c.args.script.now.lines = c.deref-line-items.ensures.value ∙ ap (λ (s : Reading). s.lines) c.script.view_is in
+    let so_far = reached c.args.tapes.now c.args.script.now.lines c.loop-line.line-index c.loop-line.store.history c.loop-line.variables.items c.loop-line.invariant.reaches in
+    subst (λ l. InOrder c.args.tapes.now unset l (asked_entries c.loop-line.store.history)) (take_all c.loop-line.line-index c.args.script.now.lines (omega (arith, c.loop-line-test.false, ap length lines))) so_far
+
+pub returns-clause-so_far : goal.returns-clause-so_far
+returns-clause-so_far g c = (c.loop-line.line-index, reached c.args.tapes.now c.args.script.now.lines c.loop-line.line-index c.loop-line.store.history c.loop-line.variables.items c.loop-line.invariant.reaches)

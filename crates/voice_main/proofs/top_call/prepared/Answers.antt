@@ -4,7 +4,7 @@ use Rattle.script_lang.specs.Verbs.{is_built_verb}
 use Rattle.script_lang.specs.Causes.{ErrsAt}
 use Rattle.voice_outside.specs.Counters.{HasRisen}
 use Rattle.voice_main.specs.declared.status.Status.{Status}
-use Rattle.voice_main.specs.Ran.{Stops}
+use Rattle.voice_main.specs.Statuses.{Stops}
 use Rattle.voice_main.proofs.Stopped.{stops_bad}
 use Rattle.voice_main.proofs.top_call.prepared.Goals as goal
 

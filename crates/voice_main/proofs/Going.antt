@@ -1,0 +1,17 @@
+-- The counts of a disk, over several calls.
+use Rattle.std.proofs.Common.{◌≡◌, ◌∙◌, refl, arith}
+use Rattle.std.specs.Prelude.{Result, Ok, Err, false, OnOk}
+use Rattle.std.specs.Result.{is_err}
+use Rattle.voice_outside.specs.Disk.{Told}
+use Rattle.voice_main.specs.Ran.{GoesOn}
+
+pub rests : (disk : Told) → GoesOn disk disk
+rests disk = record { size = refl; honest = refl; later = omega arith; faults = omega arith }
+
+pub goes_further : (a b c : Told) → GoesOn a b → GoesOn b c → GoesOn a c
+goes_further a b c h k = record { size = k.size ∙ h.size; honest = k.honest ∙ h.honest; later = omega (arith, h.later, k.later); faults = omega (arith, h.faults, k.faults) }
+
+-- what stands once a call was done
+pub at_done : {T E P : Type 0} (r : Result T E) → is_err r ≡ false → OnOk r P → P
+at_done (Ok x) fine h = h
+at_done (Err e) fine h = cc

@@ -1,0 +1,48 @@
+-- Formatting a disk.
+--     graces_by numbers      one grace for all classes
+--     HasNumbers numbers shape      the shape has these numbers
+--     HasRoom numbers size      a disk of that size can have it
+--     Formats numbers bytes image      the image is the empty disk of that shape, made of these bytes
+--     FormatStatus numbers old new status      when each status of a `format` comes
+use Rattle.std.specs.Prelude.{ℕ, List, ◌≡◌, ◌≤◌}
+use Rattle.voice_units.specs.Layout.{IsShape, bytes_needed}
+use Rattle.voice_units.specs.declared.shapes.Shape.{Shape}
+use Rattle.voice_units.specs.declared.shapes.Graces.{Graces}
+use Rattle.voice_outside.specs.Counters.{HasRisen}
+use Rattle.voice_outside.specs.Disk.{Told}
+use Rattle.voice_journal.specs.Formatted.{IsFormatted}
+use Rattle.voice_main.specs.declared.options.FormatNumbers.{FormatNumbers}
+use Rattle.voice_main.specs.declared.status.Status.{Status}
+use Rattle.voice_main.specs.declared.status.Status.TheVariants.{Done, BadShape, DiskFault, NoMemory}
+
+-- one grace for all classes
+abbrev pub graces_by : FormatNumbers → Graces
+graces_by numbers = record { common = numbers.grace; held = numbers.grace; until = numbers.grace; listed = numbers.grace }
+
+-- a disk of that size can have the shape
+pub record HasRoom (numbers : FormatNumbers) (size : ℕ) : Type 0 where
+  pub shape : IsShape 2 numbers.block numbers.blocks numbers.area (graces_by numbers) numbers.lanes
+  pub room : bytes_needed numbers.block numbers.blocks numbers.area ≤ size
+
+-- the shape has these numbers
+pub record HasNumbers (numbers : FormatNumbers) (shape : Shape) : Type 0 where
+  pub version : shape.version ≡ 2
+  pub block : shape.block ≡ numbers.block
+  pub blocks : shape.blocks ≡ numbers.blocks
+  pub area : shape.area ≡ numbers.area
+  pub graces : shape.graces ≡ graces_by numbers
+  pub lanes : shape.lanes ≡ numbers.lanes
+
+-- the image is the empty disk of the shape of these numbers, made of these bytes
+pub record Formats (numbers : FormatNumbers) (bytes image : List ℕ) : Type 0 where
+  pub shape : Shape
+  pub has : HasNumbers numbers shape
+  pub formatted : IsFormatted shape bytes image
+
+-- when each status of a `format` comes
+abbrev pub FormatStatus : FormatNumbers → Told → Told → Status → Type 0
+FormatStatus numbers old new Done = HasRoom numbers old.size
+FormatStatus numbers old new BadShape = HasRoom numbers old.size → ⊥
+FormatStatus numbers old new DiskFault = HasRisen old.faults new.faults × HasRoom numbers old.size
+FormatStatus numbers old new NoMemory = Unit {0}
+FormatStatus numbers old new _ = ⊥

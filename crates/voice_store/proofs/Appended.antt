@@ -1,0 +1,157 @@
+-- A change that was appended, by what the journal says of it.
+use Rattle.std.proofs.Common.{◌≡◌, ℕ, ◌+◌, ◌-◌, ◌≤◌, ◌<◌, List, [], ◌∷◌, ◌++◌, length, Bool, true, cond, Option, Some, None, IsTrue, refl, sym, ◌∙◌, ap, subst, arith}
+use Rattle.std.proofs.lemmas.Bool.{le-leb}
+use Rattle.std.specs.Prelude.{nat_le}
+use Rattle.voice_outside.specs.Disk.{Told}
+use Rattle.voice_units.specs.declared.shapes.Shape.{Shape}
+use Rattle.voice_journal.specs.Readings.{with_payload}
+use Rattle.voice_journal.specs.Places.{JournalValue, landed as landed_seat}
+use Rattle.voice_journal.specs.declared.seats.Doubt.TheVariants.{Record}
+use Rattle.voice_model.specs.Samples.{Tagged}
+use Rattle.voice_model.specs.State.{State, Durable, Effect, Pending}
+use Rattle.voice_model.specs.State.Effect.{Recorded, Edited, Retained, Forgotten, Counted, Swept, Advanced}
+use Rattle.voice_model.specs.Changes.{committed, changed, frame_size, base_size, form_after_switch}
+use Rattle.voice_model.specs.Spelling.{change_in}
+use Rattle.voice_model.specs.Step.{state_after}
+use Rattle.voice_model.specs.Replay.{Rebuilt, acted}
+use Rattle.voice_model.specs.declared.calls.Call.{Call}
+use Rattle.voice_model.specs.declared.calls.Reply.TheVariants as replies
+use Rattle.voice_model.specs.declared.calls.Why.TheVariants as why
+use Rattle.voice_model.specs.declared.calls.Entry.{Entry}
+use Rattle.voice_model.specs.declared.changes.Change.{Change}
+use Rattle.voice_model.proofs.ReadAgain.{spelled_is_read}
+use Rattle.next_ropes.specs.declared.NextRope.{NextRope}
+use Rattle.recovery.specs.Shown.{Rebuilds}
+use Rattle.recovery.specs.declared.parts.Parts.{Parts}
+use Rattle.crash_laws.specs.Standing.{IsLater, IsHeld}
+use Rattle.crash_laws.specs.Calls.{Does, Undoes, Doubts, StaysWithin, IsChange, KeepsDurable, IsCommitted, IsInDoubt}
+use Rattle.crash_laws.specs.Laws.{AppendsCarry, FailuresCarry}
+use Rattle.crash_laws.proofs.Commits.{acted_form}
+use Rattle.voice_store.specs.declared.inside.Inside.{Inside}
+use Rattle.voice_store.specs.declared.inside.Doubted.{Doubted}
+use Rattle.voice_store.specs.Stood.{tapes_of, last_of, in_form, Fills, IsSeated, Stood}
+use Rattle.voice_store.specs.Ways.{FitsBehind}
+use Rattle.voice_store.specs.Trying.{Trying}
+use Rattle.voice_store.proofs.Tried.{said, done_reply, waiting, next_done, next_failed, next_waits, stood_done, stood_failed, stood_waits}
+
+pub changed_shape : (form : ℕ) (d : Durable Tagged) (e : Effect Tagged) → (changed form d e).shape ≡ d.shape
+changed_shape form d (Recorded id samples) = refl
+changed_shape form d (Edited id samples) = refl
+changed_shape form d (Retained row) = refl
+changed_shape form d (Forgotten class key) = refl
+changed_shape form d (Counted keys) = refl
+changed_shape form d (Swept ids) = refl
+changed_shape form d (Advanced moment) = refl
+
+-- the state with the change, by whether its frame fits the area
+abbrev pub committed_by : Bool → State → Effect Tagged → State
+committed_by fits s effect =
+    let after = changed s.form s.kept effect in
+    let frame = frame_size s.form s.shape.block effect in
+    let to = form_after_switch s.form after in
+    record s {
+      kept = after;
+      left = cond fits (s.left - frame) (s.shape.area - 17 - base_size to after);
+      epoch = cond fits s.epoch (s.epoch + 1);
+      form = cond fits s.form to;
+    }
+
+-- where it fits, the area stays
+pub fits_behind : (s : State) (effect : Effect Tagged) → frame_size s.form s.kept.shape.block effect ≤ s.left → committed s s.form effect ≡ committed_by true s effect
+fits_behind s effect fits = ap (λ (b : Bool). committed_by b s effect) (le-leb (frame_size s.form s.kept.shape.block effect) s.left fits)
+
+module _ (first : State) (t0 : ℕ) (old new : Told) (s s' : Inside) (b : Rebuilt) (next : NextRope) (c : Change) (effect : Effect Tagged) (caller : ℕ) (call : Call)
+    (tr : Trying first t0 old s b next c effect caller call) (later : old.calls ≤ new.calls) (sizes : new.size ≡ old.size)
+    (honest : IsTrue new.honest → IsTrue old.honest) (moments : IsTrue old.honest → IsLater old new) where
+  abbrev end : State
+  end = last_of first s
+
+  abbrev pub entry_done : Entry
+  entry_done = said first t0 old new s s' b next c effect caller call tr later sizes (done_reply first t0 old new s s' b next c effect caller call tr later sizes)
+
+  abbrev pub entry_failed : Entry
+  entry_failed = said first t0 old new s s' b next c effect caller call tr later sizes (replies.No why.DiskFault)
+
+  abbrev pub entry_waits : Entry
+  entry_waits = said first t0 old new s s' b next c effect caller call tr later sizes (replies.No why.InDoubt)
+
+  -- ---- it failed before it counted, in whatever way it went
+
+  stays_durable : KeepsDurable end (state_after end (tapes_of s) entry_failed)
+  stays_durable =
+      let is = next_failed first t0 old new s s' b next c effect caller call tr later sizes in
+      record { kept = ap (λ (t : State). t.kept) is; doubt = ap (λ (t : State). t.doubt) is; form = ap (λ (t : State). t.form) is; left = ap (λ (t : State). t.left) is }
+
+  pub failed_stood : s'.tapes ≡ s.tapes → s'.history.items ≡ s.history.items ++ entry_failed ∷ []
+      → s'.journal.shape ≡ s.journal.shape → s'.journal.seat ≡ s.journal.seat → s'.journal.doubt ≡ None → s'.doubt ≡ None → s'.base ≡ s.base → Rebuilds s'.parts b
+      → FailuresCarry old new → (IsTrue old.honest → Undoes s.journal s'.journal old new) → Stood first t0 new s'
+  failed_stood tapes items shape seat sure none size tables carry undoes =
+      stood_failed first t0 old new s s' b next c effect caller call tr later sizes tapes items shape seat sure none size tables
+      (λ h. let h' = honest h in
+      carry.before first (tapes_of s) t0 s.journal s'.journal b b s.history.items entry_failed (moments h') (tr.upright.held h') tr.may.sure (undoes h') refl stays_durable)
+
+  module _ (payload : List ℕ) (payload_is : payload ≡ next.payload.items) (fits : FitsBehind end effect) (need : ℕ) (need_is : need ≡ base_size end.form (changed end.form end.kept effect)) where
+    abbrev then : State
+    then = committed end end.form effect
+
+    is_then : then ≡ committed_by true end effect
+    is_then = fits_behind end effect fits.fits
+
+    change : IsTrue old.honest → IsChange old.bytes end effect b payload c
+    change h = record {
+      spelled = ap change_in (payload_is ∙ tr.ready.payload) ∙ spelled_is_read c tr.ready.grammar;
+      brings_it = tr.ready.kind;
+      legal = tr.ready.legal;
+      does = tr.does h;
+    }
+
+    fills_then : Fills tr.later_fill (acted b c) then
+    fills_then = subst (λ (t : State). Fills tr.later_fill (acted b c) t) (sym is_then)
+        (record { spots = tr.brings_it.spots; kept = tr.brings_it.kept; form = acted_form b c tr.ready.kind ∙ tr.upright.fills.form })
+
+    seated_then : IsSeated (record s.journal { seat = landed_seat s.journal.seat (Record (length payload)) }) need then
+    seated_then =
+        let was = tr.upright.seated in
+        let left = was.left in
+        let frame = tr.frame in
+        let long = fits.fits in
+        let size : length payload ≡ length next.payload.items = ap length payload_is in
+        subst (λ (t : State). IsSeated (record s.journal { seat = landed_seat s.journal.seat (Record (length payload)) }) need t) (sym is_then)
+        (record { shape = changed_shape end.form end.kept effect ∙ was.shape; left = omega (arith, left, frame, long, size); epoch = was.epoch; base = need_is })
+
+    committed_then : IsCommitted end effect end.form (state_after end (tapes_of s) entry_done)
+    committed_then =
+        let is = next_done first t0 old new s s' b next c effect caller call tr later sizes ∙ is_then in
+        record { kept = ap (λ (t : State). t.kept) is; doubt = ap (λ (t : State). t.doubt) is ∙ tr.may.sure; form = ap (λ (t : State). t.form) is }
+
+    pub appended_stood : s'.tapes ≡ s.tapes → s'.history.items ≡ s.history.items ++ entry_done ∷ []
+        → s'.journal.shape ≡ s.journal.shape → s'.journal.seat ≡ landed_seat s.journal.seat (Record (length payload)) → s'.journal.doubt ≡ None → s'.doubt ≡ None → s'.base ≡ need
+        → Rebuilds s'.parts (acted b c)
+        → AppendsCarry old new → (IsTrue old.honest → Does (λ r. with_payload r payload) s.journal s'.journal old new × StaysWithin (λ r. with_payload r payload) s.journal old new)
+        → Stood first t0 new s'
+    appended_stood tapes items shape seat sure none size tables carry does =
+        stood_done first t0 old new s s' b next c effect caller call tr later sizes (acted b c) (Record (length payload)) need tapes items shape seat sure none size tables fills_then seated_then
+        (λ h. let h' = honest h in let d = does h' in
+        carry.ok first (tapes_of s) t0 s.journal s'.journal b b s.history.items effect payload c entry_done (moments h') (tr.upright.held h') tr.may.sure (change h') d.0 d.1 refl committed_then)
+
+    waits_then : IsInDoubt end effect (state_after end (tapes_of s) entry_waits)
+    waits_then =
+        let is = next_waits first t0 old new s s' b next c effect caller call tr later sizes in
+        record { kept = ap (λ (t : State). t.kept) is; doubt = ap (λ (t : State). t.doubt) is; form = ap (λ (t : State). t.form) is; left = ap (λ (t : State). t.left) is }
+
+    -- the tables once it lands
+    in_form_then : (parts : Parts) → Rebuilds parts (acted b c) → Rebuilds (in_form s.parts.form parts) (acted b c)
+    in_form_then parts shows = subst (λ (f : ℕ). Rebuilds (in_form f parts) (acted b c)) (shows.in_form ∙ acted_form b c tr.ready.kind ∙ sym tr.ready.form) shows
+
+    pub append_waits : (doubted : Doubted) → doubted.next ≡ next → doubted.base ≡ need → doubted.form ≡ s.parts.form → s'.tapes ≡ s.tapes
+        → s'.history.items ≡ s.history.items ++ entry_waits ∷ []
+        → s'.journal.shape ≡ s.journal.shape → s'.journal.seat ≡ s.journal.seat → s'.journal.doubt ≡ Some (Record (length payload)) → s'.doubt ≡ Some doubted → s'.base ≡ s.base → s'.parts ≡ s.parts
+        → AppendsCarry old new → (IsTrue old.honest → Doubts (λ r. with_payload r payload) s.journal s'.journal old new × StaysWithin (λ r. with_payload r payload) s.journal old new)
+        → Stood first t0 new s'
+    append_waits doubted same base form tapes items shape seat unsure some size parts carry doubts =
+        stood_waits first t0 old new s s' b next c effect caller call tr later sizes (acted b c) (Record (length payload)) doubted same tapes items shape seat unsure some size parts
+        (λ p shows. subst (λ (f : ℕ). Rebuilds (in_form f p) (acted b c)) (sym form) (in_form_then p shows))
+        fills_then
+        (subst (λ (n : ℕ). IsSeated (record s.journal { seat = landed_seat s.journal.seat (Record (length payload)) }) n then) (sym base) seated_then)
+        (λ h. let h' = honest h in let d = doubts h' in
+        carry.doubt first (tapes_of s) t0 s.journal s'.journal b b s.history.items effect payload c entry_waits (moments h') (tr.upright.held h') tr.may.sure (change h') d.0 d.1 refl (fits.fits, waits_then))

@@ -1,0 +1,76 @@
+-- A store with one entry more, and one whose disk went on.
+use Rattle.std.proofs.Common.{◌≡◌, ◌⊎◌, inl, inr, ℕ, ◌+◌, ◌≤◌, List, [], ◌∷◌, ◌++◌, Bool, IsTrue, refl, sym, ◌∙◌, ap, subst, arith}
+use Rattle.voice_outside.specs.Disk.{Told}
+use Rattle.voice_units.specs.Spots.{Spot}
+use Rattle.voice_journal.specs.Readings.{extent}
+use Rattle.voice_model.specs.Samples.{Tagged}
+use Rattle.voice_model.specs.State.{State, LaneState}
+use Rattle.voice_model.specs.Step.{Legal, IsAnswer, state_after, after}
+use Rattle.voice_model.specs.Replay.{Rebuilt}
+use Rattle.voice_model.specs.Valid.{IsState}
+use Rattle.voice_model.specs.declared.calls.Entry.{Entry}
+use Rattle.crash_laws.specs.Standing.{IsHeld}
+use Rattle.voice_store.specs.declared.inside.Inside.{Inside}
+use Rattle.voice_store.specs.Stood.{tapes_of, last_of, Fills, IsSeated, AcksRise, AreQuiet, Upright, IsSure, IsUnsure, Stood}
+use Rattle.voice_store.proofs.Entries.{after_one, legal_one, acks_one, acks_later}
+
+module _ (first : State) (t0 : ℕ) (old new : Told) (s s' : Inside) (e : Entry) (tapes : s'.tapes ≡ s.tapes) (items : s'.history.items ≡ s.history.items ++ e ∷ []) where
+  abbrev last : State
+  last = last_of first s
+
+  abbrev next : State
+  next = state_after last (tapes_of s) e
+
+  same_tapes : tapes_of s' ≡ tapes_of s
+  same_tapes = ap (λ t. tapes_of (record s { tapes = t })) tapes
+
+  pub last_next : last_of first s' ≡ next
+  last_next =
+      ap (λ (ts : List (List ℕ)). after first ts s'.history.items) same_tapes
+      ∙ ap (λ (l : List Entry). after first (tapes_of s) l) items ∙ after_one first (tapes_of s) s.history.items e
+
+  -- what holds of tapes and entries, of those of the store
+  here : (P : List (List ℕ) → List Entry → Type 0) → P (tapes_of s) (s.history.items ++ e ∷ []) → P (tapes_of s') s'.history.items
+  here P p = subst (λ (ts : List (List ℕ)). P ts s'.history.items) (sym same_tapes) (subst (λ (l : List Entry). P (tapes_of s) l) (sym items) p)
+
+  pub stood_pushed : (fill fill' : Spot → Tagged) (b b' after' after'' : Rebuilt) → Upright first t0 old s fill b after' → old.calls ≤ new.calls → e.ack ≡ new.calls
+      → IsAnswer last (tapes_of s) e → IsState next → AreQuiet next.lanes → Fills fill' b' next → IsSeated s'.journal s'.base next
+      → (IsTrue new.honest → IsHeld first (tapes_of s) t0 s'.journal new b' after'' (s.history.items ++ e ∷ []))
+      → IsSure s' b' after'' next ⊎ IsUnsure s' b' after'' next → extent s'.journal.shape ≤ new.size
+      → Stood first t0 new s'
+  stood_pushed fill fill' b b' after' after'' up later now answers valid quiet fills seated held tables size = record {
+    fill = fill';
+    b = b';
+    after = after'';
+    upright = record {
+      legal = here (λ ts l. Legal first ts l) (legal_one first (tapes_of s) s.history.items e up.legal answers);
+      valid = subst (λ (t : State). IsState t) (sym last_next) valid;
+      quiet = subst (λ (t : State). AreQuiet t.lanes) (sym last_next) quiet;
+      fills = subst (λ (t : State). Fills fill' b' t) (sym last_next) fills;
+      seated = subst (λ (t : State). IsSeated s'.journal s'.base t) (sym last_next) seated;
+      acks = here (λ ts l. AcksRise t0 l new.calls) (acks_one t0 s.history.items e new.calls (acks_later t0 s.history.items old.calls new.calls up.acks later) now);
+      held = λ honest. here (λ ts l. IsHeld first ts t0 s'.journal new b' after'' l) (held honest);
+    };
+    tables = subst (λ (t : State). IsSure s' b' after'' t ⊎ IsUnsure s' b' after'' t) (sym last_next) tables;
+    size = size;
+  }
+
+-- a store whose disk went on, with nothing new
+pub stood_went_on : (first : State) (t0 : ℕ) (old new : Told) (s : Inside) (stood : Stood first t0 old s) → old.calls ≤ new.calls → new.size ≡ old.size
+    → (IsTrue new.honest → IsHeld first (tapes_of s) t0 s.journal new stood.b stood.after s.history.items) → Stood first t0 new s
+stood_went_on first t0 old new s stood later size held = record {
+  fill = stood.fill;
+  b = stood.b;
+  after = stood.after;
+  upright = record {
+    legal = stood.upright.legal;
+    valid = stood.upright.valid;
+    quiet = stood.upright.quiet;
+    fills = stood.upright.fills;
+    seated = stood.upright.seated;
+    acks = acks_later t0 s.history.items old.calls new.calls stood.upright.acks later;
+    held = held;
+  };
+  tables = stood.tables;
+  size = let is = stood.size in omega (arith, is, size);
+}

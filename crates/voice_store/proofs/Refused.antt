@@ -1,0 +1,118 @@
+-- Calls that leave the state as it was.
+use Rattle.std.proofs.Common.{◌≡◌, ◌⊎◌, inl, inr, ℕ, List, [], ◌∷◌, map, Bool, true, false, Option, Some, None, IsTrue, is_some, refl, sym, ◌∙◌, ap, subst}
+use Rattle.voice_units.specs.Spots.{Spot}
+use Rattle.voice_units.specs.declared.pieces.Piece.{Piece}
+use Rattle.voice_model.specs.Samples.{Tagged, spot_of}
+use Rattle.voice_model.specs.State.{State, Live, Durable}
+use Rattle.voice_model.specs.Changes.{is_changing}
+use Rattle.voice_model.specs.Step.{Outcome, outcome_of, refusal, reply_by, reply_of, windows_home, answered, after_reply, state_by, state_after, nothing_to_land, landing_failed, MayReply, IsReply}
+use Rattle.voice_model.specs.Replay.{Rebuilt, live_by, durable_by}
+use Rattle.voice_model.specs.declared.calls.Call.{Call}
+use Rattle.voice_model.specs.declared.calls.Call.TheVariants as calls
+use Rattle.voice_model.specs.declared.calls.Reply.{Reply}
+use Rattle.voice_model.specs.declared.calls.Reply.TheVariants as replies
+use Rattle.voice_model.specs.declared.calls.Why.{Why}
+use Rattle.voice_model.specs.declared.calls.Why.TheVariants as why
+use Rattle.voice_model.proofs.Answers.{answered_outcome}
+use Rattle.recovery.specs.Shown.{Shows}
+use Rattle.recovery.specs.declared.parts.Parts.{Parts}
+use Rattle.edits.specs.Shown.{ShowsState, IsLength}
+use Rattle.voice_outside.specs.Disk.{Told}
+use Rattle.voice_store.specs.declared.inside.Inside.{Inside}
+use Rattle.voice_store.specs.Stood.{is_fault_of, Fills, IsSure, IsUnsure, Stood, last_of}
+use Rattle.voice_store.specs.Facts.{Stays, IsFault, entry_of, is_built}
+
+-- ---- a call that the store can do
+
+pub wrong : false ≡ true → ⊥
+wrong e = cc
+
+pub is_reply : (s : State) (tapes : List (List ℕ)) (caller : ℕ) (call : Call) (reply : Reply) → IsTrue (is_built call) → MayReply (outcome_of reply) s tapes call reply → IsReply s tapes caller call reply
+is_reply s tapes caller (calls.Record take) reply built may = (tt, may)
+is_reply s tapes caller (calls.Concat ids) reply built may = (tt, may)
+is_reply s tapes caller (calls.Sub id start len) reply built may = (tt, may)
+is_reply s tapes caller (calls.Replace id start len with) reply built may = (tt, may)
+is_reply s tapes caller (calls.Length id) reply built may = (tt, may)
+is_reply s tapes caller _ reply built may = absurd (wrong built)
+
+pub stays_home : (s : State) (call : Call) → IsTrue (is_built call) → windows_home s call ≡ s
+stays_home s (calls.Record take) built = refl
+stays_home s (calls.Concat ids) built = refl
+stays_home s (calls.Sub id start len) built = refl
+stays_home s (calls.Replace id start len with) built = refl
+stays_home s (calls.Length id) built = refl
+stays_home s _ built = absurd (wrong built)
+
+pub answered_so : (s : State) (tapes : List (List ℕ)) (call : Call) → IsTrue (is_built call) → answered s tapes call ≡ after_reply s tapes call (refusal s tapes call)
+answered_so s tapes (calls.Record take) built = refl
+answered_so s tapes (calls.Concat ids) built = refl
+answered_so s tapes (calls.Sub id start len) built = refl
+answered_so s tapes (calls.Replace id start len with) built = refl
+answered_so s tapes (calls.Length id) built = refl
+answered_so s tapes _ built = absurd (wrong built)
+
+-- ---- a refusal
+
+module _ (s : State) (tapes : List (List ℕ)) (caller : ℕ) (call : Call) (built : IsTrue (is_built call)) (free : IsTrue (nothing_to_land s call)) (o : Option Why) (is : refusal s tapes call ≡ o) where
+  outcome : outcome_of (reply_by s tapes call o) ≡ Outcome.Answered
+  outcome = subst (λ x. outcome_of (reply_by s tapes call x) ≡ Outcome.Answered) is (answered_outcome s tapes call)
+
+  pub may_answer : IsReply s tapes caller call (reply_by s tapes call o)
+  may_answer = is_reply s tapes caller call (reply_by s tapes call o) built
+      (subst (λ x. MayReply x s tapes call (reply_by s tapes call o)) (sym outcome) (free, ap (λ x. reply_by s tapes call x) (sym is)))
+
+  pub after_answered : (ack : ℕ) → state_after s tapes (entry_of caller call (reply_by s tapes call o) ack) ≡ after_reply s tapes call o
+  after_answered ack = ap (λ x. state_by x s tapes call) outcome ∙ answered_so s tapes call built ∙ ap (λ x. after_reply s tapes call x) is
+
+pub refused_stays : (s : State) (tapes : List (List ℕ)) (caller : ℕ) (call : Call) (reason : Why) → IsTrue (is_built call) → IsTrue (nothing_to_land s call) → refusal s tapes call ≡ Some reason → Stays s tapes caller call (replies.No reason)
+refused_stays s tapes caller call reason built free is = record {
+  answers = may_answer s tapes caller call built free (Some reason) is;
+  stays = λ ack. after_answered s tapes caller call built free (Some reason) is ack ∙ stays_home s call built;
+}
+
+-- a refusal tells of no device fault
+pub refused_plain : (s : State) (tapes : List (List ℕ)) (call : Call) (reason : Why) → refusal s tapes call ≡ Some reason → ¬ IsFault (replies.No reason)
+refused_plain s tapes call reason is = λ fault.
+    wrong (sym (ap is_fault_of (subst (λ x. outcome_of (reply_by s tapes call x) ≡ Outcome.Answered) is (answered_outcome s tapes call))) ∙ fault)
+
+-- ---- a landing that failed
+
+pub unlanded_stays : (s : State) (tapes : List (List ℕ)) (caller : ℕ) (call : Call) → IsTrue (is_built call) → IsTrue (landing_failed s call) → Stays s tapes caller call (replies.No why.DiskFault)
+unlanded_stays s tapes caller call built failed = record {
+  answers = is_reply s tapes caller call (replies.No why.DiskFault) built (inl failed);
+  stays = λ ack. stays_home s call built;
+}
+
+-- ---- a length
+
+pub length_stays : (s : State) (tapes : List (List ℕ)) (caller id n : ℕ) → IsLength (Some n) s tapes id → Stays s tapes caller (calls.Length id) (replies.Number n)
+length_stays s tapes caller id n is =
+    subst (λ r. Stays s tapes caller (calls.Length id) r) is.1 (record {
+      answers = may_answer s tapes caller (calls.Length id) refl refl None is.0;
+      stays = λ ack. after_answered s tapes caller (calls.Length id) refl refl None is.0 ack;
+    })
+
+-- ---- what the tables show of the state
+
+pub spots_again : (fill : Spot → Tagged) → ((x : Spot) → spot_of (fill x) ≡ x) → (ss : List Spot) → map spot_of (map fill ss) ≡ ss
+spots_again fill same [] = refl
+spots_again fill same (s ∷ ss) = ap (λ x. x ∷ map spot_of (map fill ss)) (same s) ∙ ap (λ l. s ∷ l) (spots_again fill same ss)
+
+ropes_again : (fill : Spot → Tagged) → ((x : Spot) → spot_of (fill x) ≡ x) → (ropes : List (Live Spot)) → map (live_by spot_of) (map (live_by fill) ropes) ≡ ropes
+ropes_again fill same [] = refl
+ropes_again fill same (r ∷ rs) =
+    ap (λ (l : List Spot). record r { samples = l } ∷ map (live_by spot_of) (map (live_by fill) rs)) (spots_again fill same r.samples) ∙ ap (λ l. r ∷ l) (ropes_again fill same rs)
+
+pub kept_again : (fill : Spot → Tagged) → ((x : Spot) → spot_of (fill x) ≡ x) → (d : Durable Spot) → durable_by spot_of (durable_by fill d) ≡ d
+kept_again fill same d = ap (λ (l : List (Live Spot)). record d { ropes = l }) (ropes_again fill same d.ropes)
+
+pub shows_state : (fill : Spot → Tagged) (b : Rebuilt) (s : State) (parts : Parts) → Fills fill b s → Shows [] parts b.kept → ShowsState [] parts s
+shows_state fill b s parts fills shows = subst (λ d. Shows [] parts d) (sym (kept_again fill fills.spots b.kept) ∙ ap (durable_by spot_of) fills.kept) shows
+
+module _ (first : State) (t0 : ℕ) (disk : Told) (s : Inside) (stood : Stood first t0 disk s) where
+  shown : IsSure s stood.b stood.after (last_of first s) ⊎ IsUnsure s stood.b stood.after (last_of first s) → Shows [] s.parts stood.b.kept
+  shown (inl sure) = sure.tables.kept
+  shown (inr unsure) = unsure.ready.shows
+
+  pub stood_shows : ShowsState [] s.parts (last_of first s)
+  stood_shows = shows_state stood.fill stood.b (last_of first s) s.parts stood.upright.fills (shown stood.tables)

@@ -1,0 +1,114 @@
+-- What was in doubt has landed.
+use Rattle.std.proofs.Common.{rules, ◌≡◌, ◌⊎◌, inl, inr, ℕ, ◌+◌, ◌≤◌, List, [], ◌∷◌, ◌++◌, Bool, true, false, Option, Some, None, is_some, IsTrue, refl, sym, ◌∙◌, ap, subst, arith}
+use Rattle.std.specs.Prelude.{is_none}
+use Rattle.voice_outside.specs.Disk.{Told}
+use Rattle.voice_units.specs.declared.shapes.Shape.{Shape}
+use Rattle.voice_journal.specs.Places.{JournalValue, closed_after, landed as landed_seat}
+use Rattle.voice_journal.specs.Readings.{extent}
+use Rattle.voice_journal.specs.declared.seats.Doubt.{Doubt}
+use Rattle.voice_model.specs.Samples.{Tagged}
+use Rattle.voice_model.specs.State.{State, Durable, LaneState, Pending}
+use Rattle.voice_model.specs.Changes.{committed}
+use Rattle.voice_model.specs.Step.{landed, after_landing, state_after, IsAnswer}
+use Rattle.voice_model.specs.Replay.{Rebuilt, acted}
+use Rattle.voice_model.specs.declared.calls.Entry.{Entry}
+use Rattle.recovery.specs.Shown.{Rebuilds}
+use Rattle.recovery.specs.declared.parts.Parts.{Parts}
+use Rattle.next_ropes.specs.Ready.{IsReady}
+use Rattle.next_ropes.specs.declared.NextRope.{NextRope}
+use Rattle.crash_laws.specs.Standing.{IsLater, IsHeld}
+use Rattle.crash_laws.specs.Calls.{Lands, StaysInDoubt, LandsWithin}
+use Rattle.crash_laws.specs.Laws.{LandingsCarry}
+use Rattle.voice_store.specs.declared.inside.Inside.{Inside}
+use Rattle.voice_store.specs.declared.inside.Doubted.{Doubted}
+use Rattle.voice_store.specs.Stood.{tapes_of, last_of, in_form, IsSeated, IsSure, IsUnsure, Stood}
+use Rattle.voice_store.specs.Stood as stood
+use Rattle.voice_store.specs.Trying.{IsReadyIn}
+use Rattle.voice_store.specs.Facts.{landing_at}
+use Rattle.voice_store.proofs.Pushed.{stood_pushed, stood_went_on}
+
+landed_lanes : (s : State) (o : Option Pending) → (after_landing (record s { doubt = None }) o).lanes ≡ s.lanes
+landed_lanes s None = refl
+landed_lanes s (Some pending) = refl
+
+landed_doubt : (s : State) (o : Option Pending) → (after_landing (record s { doubt = None }) o).doubt ≡ None
+landed_doubt s None = refl
+landed_doubt s (Some pending) = refl
+
+-- only where a change is in doubt is a rope ready
+pub unsure_of : (s : Inside) (b after' : Rebuilt) (last : State) (doubted : Doubted) → s.doubt ≡ Some doubted → IsSure s b after' last ⊎ IsUnsure s b after' last → IsUnsure s b after' last
+unsure_of s b after' last doubted is (inl sure) = let bad : None ≡ Some doubted = sym sure.sure ∙ is in cc
+unsure_of s b after' last doubted is (inr unsure) = unsure
+
+pub sure_of : (s : Inside) (b after' : Rebuilt) (last : State) → s.doubt ≡ None → IsSure s b after' last ⊎ IsUnsure s b after' last → IsSure s b after' last
+sure_of s b after' last is (inl sure) = sure
+sure_of s b after' last is (inr unsure) = let bad : None ≡ Some unsure.doubted = sym is ∙ unsure.unsure in cc
+
+pub unsure_by : (s : Inside) (b after' : Rebuilt) (last : State) → is_none s.doubt ≡ false → IsSure s b after' last ⊎ IsUnsure s b after' last → IsUnsure s b after' last
+unsure_by s b after' last is (inl sure) = let bad : true ≡ false = sym (ap (λ (o : Option Doubted). is_none o) sure.sure) ∙ is in cc
+unsure_by s b after' last is (inr unsure) = unsure
+
+pub same_doubted : (s : Inside) (x y : Doubted) → s.doubt ≡ Some x → s.doubt ≡ Some y → x ≡ y
+same_doubted s x y p q = let both : Some x ≡ Some y = sym p ∙ q in cc
+
+pub is_true : IsTrue true
+is_true = search rules
+
+-- the journal that a landing leaves
+abbrev pub landed_journal : JournalValue → Doubt → JournalValue
+landed_journal journal doubt = record journal { seat = landed_seat journal.seat doubt; doubt = None; is_closed = closed_after journal.is_closed doubt }
+
+module _ (first : State) (t0 : ℕ) (old new : Told) (s s' : Inside) (was : Stood first t0 old s) (unsure : IsUnsure s was.b was.after (last_of first s))
+    (later : old.calls ≤ new.calls) (sizes : new.size ≡ old.size) (honest : IsTrue new.honest → IsTrue old.honest) (moments : IsTrue old.honest → IsLater old new) (carry : LandingsCarry old new) where
+  abbrev last : State
+  last = last_of first s
+
+  pub stood_landed : s'.tapes ≡ s.tapes → s'.history.items ≡ s.history.items ++ landing_at new.calls ∷ [] → s'.journal ≡ landed_journal s.journal unsure.doubt
+      → s'.doubt ≡ None → s'.base ≡ unsure.doubted.base → s'.parts.form ≡ unsure.doubted.form → Rebuilds (in_form was.b.form s'.parts) (acted was.b unsure.change)
+      → (IsTrue old.honest → Lands s.journal s'.journal old new × LandsWithin s.journal old new)
+      → Stood first t0 new s'
+  stood_landed tapes items journal doubt base form tables does =
+      let lands = unsure.lands in
+      let e = landing_at new.calls in
+      let next_is : state_after last (tapes_of s) e ≡ landed last = refl in
+      let shown : Rebuilds (in_form unsure.doubted.form s'.parts) was.after = lands.tables (in_form was.b.form s'.parts) tables in
+      let shows : Rebuilds s'.parts was.after = subst (λ (f : ℕ). Rebuilds (in_form f s'.parts) was.after) (sym form) shown in
+      let none : (landed last).doubt ≡ None = landed_doubt last last.doubt in
+      let seated : IsSeated s'.journal s'.base (landed last) =
+      subst (λ (n : ℕ). IsSeated s'.journal n (landed last)) (sym base) (subst (λ (j : JournalValue). IsSeated j unsure.doubted.base (landed last)) (sym journal)
+      (record { shape = lands.seated.shape; left = lands.seated.left; epoch = lands.seated.epoch; base = lands.seated.base })) in
+      stood_pushed first t0 old new s s' e tapes items was.fill lands.fill was.b was.after was.after was.after was.upright later refl
+      (refl, refl, subst (λ (o : Option Pending). IsTrue (is_some o)) (sym unsure.in_state) is_true)
+      lands.valid
+      (subst (λ (l : List LaneState). stood.AreQuiet l) (sym (landed_lanes last last.doubt)) was.upright.quiet)
+      lands.fills seated
+      (λ h. let d = does (honest h) in carry.ok first (tapes_of s) t0 s.journal s'.journal was.b was.after s.history.items unsure.pending (moments (honest h)) (was.upright.held (honest h)) unsure.in_state d.0 d.1)
+      (inl (record { sure = doubt; in_journal = ap (λ (j : JournalValue). j.doubt) journal; in_state = none; tables = shows; same = refl }))
+      (let is = was.size in let shape : s'.journal.shape ≡ s.journal.shape = ap (λ (j : JournalValue). j.shape) journal in
+      subst (λ (x : Shape). extent x ≤ new.size) (sym shape) (omega (arith, is, sizes)))
+
+  pub stood_not_landed : (journal : JournalValue) → journal ≡ s.journal → (IsTrue old.honest → StaysInDoubt s.journal journal old new × LandsWithin s.journal old new) → Stood first t0 new (record s { journal = journal })
+  stood_not_landed journal same stays =
+      subst (λ (j : JournalValue). Stood first t0 new (record s { journal = j })) (sym same)
+      (stood_went_on first t0 old new s was later sizes
+      (λ h. let d = stays (honest h) in
+      carry.failed first (tapes_of s) t0 s.journal s.journal was.b was.after s.history.items unsure.pending (moments (honest h)) (was.upright.held (honest h)) unsure.in_state
+      (subst (λ (j : JournalValue). StaysInDoubt s.journal j old new) same d.0) d.1))
+
+-- ---- what is ready
+
+-- what is rebuilt has the shape of the journal
+pub shape_of : (first : State) (t0 : ℕ) (disk : Told) (s : Inside) (was : Stood first t0 disk s) → was.b.shape ≡ s.journal.shape
+shape_of first t0 disk s was = ap (λ (d : Durable Tagged). d.shape) was.upright.fills.kept ∙ was.upright.seated.shape
+
+pub ready_in : (first : State) (t0 : ℕ) (disk : Told) (s : Inside) (was : Stood first t0 disk s) (unsure : IsUnsure s was.b was.after (last_of first s)) (doubted : Doubted) (s' : Inside)
+    → unsure.doubted ≡ doubted → s'.parts ≡ s.parts → s'.journal.shape ≡ s.journal.shape → IsReadyIn s' doubted.next
+ready_in first t0 disk s was unsure doubted s' same parts shape = record {
+  b = was.b;
+  c = unsure.change;
+  ready = subst (λ (p : Parts). IsReady p was.b doubted.next unsure.change) (sym parts) (subst (λ (d : Doubted). IsReady s.parts was.b d.next unsure.change) same unsure.ready);
+  in_shape = shape_of first t0 disk s was ∙ sym shape;
+}
+
+pub ready_again : (s s' : Inside) (next : NextRope) → s'.parts ≡ s.parts → s'.journal.shape ≡ s.journal.shape → IsReadyIn s next → IsReadyIn s' next
+ready_again s s' next parts shape ready = record { b = ready.b; c = ready.c; ready = subst (λ (p : Parts). IsReady p ready.b next ready.c) (sym parts) ready.ready; in_shape = ready.in_shape ∙ sym shape }

@@ -1,0 +1,235 @@
+-- A recording whose rope is ready, before and after its samples were written.
+use Rattle.std.proofs.Common.{◌≡◌, inl, ℕ, ◌+◌, ◌*◌, ◌≤◌, ◌==◌, Bool, true, cond, List, [], ◌∷◌, ◌++◌, length, None, IsTrue, refl, sym, ◌∙◌, ap, subst, arith}
+use Rattle.std.specs.Prelude.{Vec}
+use Rattle.std.specs.List.{list_all}
+use Rattle.std.specs.declared.alloc.Global.{Global}
+use Rattle.voice_units.specs.declared.pieces.Take.{Take}
+use Rattle.voice_units.specs.declared.shapes.Shape.{Shape}
+use Rattle.voice_units.specs.Spots.{Spot, samples_in, spots_from, pieces_of}
+use Rattle.voice_units.specs.Blocks.{blocks_for}
+use Rattle.voice_outside.specs.Disk.{Told}
+use Rattle.voice_model.specs.Samples.{Tagged, bytes_of, recording, recorded_from}
+use Rattle.voice_model.specs.State.{State, Effect}
+use Rattle.voice_model.specs.Changes.{changed, frame_size}
+use Rattle.voice_model.specs.Changes as sizes
+use Rattle.voice_model.specs.Tapes.{taken}
+use Rattle.voice_model.specs.Step.{refusal, reply_of}
+use Rattle.voice_model.specs.Replay.{Rebuilt, acted, durable_by, recovered, all_differ, is_free_address}
+use Rattle.voice_model.specs.Base.{change_of}
+use Rattle.voice_model.specs.Spelling.{spelling}
+use Rattle.voice_model.specs.declared.calls.Call.TheVariants as calls
+use Rattle.voice_model.specs.declared.calls.Reply.TheVariants as replies
+use Rattle.voice_model.specs.declared.calls.Why.TheVariants as why
+use Rattle.voice_model.specs.declared.calls.Entry.{Entry}
+use Rattle.voice_model.specs.declared.changes.Change.{Change}
+use Rattle.voice_model.specs.declared.changes.Change.TheVariants as kinds
+use Rattle.voice_model.proofs.FitsOfCalls.{recorded_length}
+use Rattle.voice_model.proofs.ChangesOfEffects.{size_again}
+use Rattle.recovery.specs.Shown.{Rebuilds}
+use Rattle.recovery.specs.declared.parts.Parts.{Parts}
+use Rattle.next_ropes.specs.Ready.{IsReady, next_change}
+use Rattle.next_ropes.specs.declared.NextRope.{NextRope}
+use Rattle.next_ropes.proofs.Readied.{recorded_samples}
+use Rattle.fillings.specs.Laws.{HasBytes}
+use Rattle.fillings.proofs.Calls.{call_does}
+use Rattle.recording_writer.specs.Wrote.{WroteAt, AreBelow, AreDistinct}
+use Rattle.crash_laws.specs.Foundations.{Foundations}
+use Rattle.crash_laws.specs.Standing.{IsLater, IsHeld}
+use Rattle.crash_laws.specs.Calls.{SparesWithin}
+use Rattle.crash_laws.proofs.Opened.{standing_gives}
+use Rattle.crash_laws.proofs.Writing.{writes_carry}
+use Rattle.crash_laws.proofs.Noted.{entries_count}
+use Rattle.voice_store.specs.declared.inside.Inside.{Inside}
+use Rattle.voice_store.specs.Stood.{last_of, tapes_of, Upright, IsSure, Stood}
+use Rattle.voice_store.specs.Facts.{MayCommit, entry_of}
+use Rattle.voice_store.specs.Trying.{Trying}
+use Rattle.voice_store.specs.Keeping.{HasRoom, HoldsRecording, recorded_by}
+use Rattle.voice_store.specs.declared.ways.Way.{Way}
+use Rattle.voice_store.proofs.Kept.{is_sure, upright_by, same_number, same_shape}
+use Rattle.voice_store.proofs.Entries.{acks_later, stood_noted}
+use Rattle.voice_store.proofs.Making.{IsMaking, may_commit}
+use Rattle.voice_store.proofs.Recordable.{many as taken_as, recording_free}
+use Rattle.voice_store.proofs.Spared.{below_at, free_at, distinct_at, spares_within}
+use Rattle.voice_store.proofs.Taking.{later_fill, later_spots, brings_recording}
+
+-- a recording makes a rope and does nothing else
+recording_makes : (s : State) (tapes : List (List ℕ)) (take : Take) → IsMaking s tapes (calls.Record take)
+recording_makes s tapes take = record { built = refl; changing = refl; lanes = refl; closes = refl; reaches = refl; reply = refl; range = tt }
+
+bytes_recorded : (id place : ℕ) (bytes : List ℕ) → bytes_of (recorded_from id place bytes) ≡ bytes
+bytes_recorded id place [] = refl
+bytes_recorded id place (byte ∷ bytes) = ap (λ l. byte ∷ l) (bytes_recorded id (place + 1) bytes)
+
+-- the change that a rope which is ready makes of what is rebuilt
+abbrev pub change_in : Rebuilt → NextRope → Change
+change_in b next = next_change b.form next
+
+-- its rope is ready
+abbrev pub holding : (first : State) (t0 : ℕ) (disk : Told) (s : Inside) (take : Take) (need : ℕ) (way : Way) (room : HasRoom first t0 disk s take need way) (parts : Parts) (next : NextRope)
+    → IsReady parts room.makes.stood.b next (change_in room.makes.stood.b next) → next.recorded ≡ true → length next.addresses.items ≡ blocks_for s.journal.shape.block take.len
+    → all_differ next.addresses.items ≡ true → list_all (is_free_address room.makes.stood.b) next.addresses.items ≡ true → next.pieces ≡ pieces_of (spots_from next.id 0 take.len)
+    → HoldsRecording first t0 disk (record s { parts = parts }) take next
+holding first t0 disk s take need way room parts next ready recorded many differ spare pieces = record {
+  before = s.parts;
+  makes = room.makes;
+  free = room.free;
+  ready = ready;
+  recorded = recorded;
+  many = many;
+  differ = differ;
+  spare = spare;
+  pieces = pieces;
+}
+
+module _ (first : State) (t0 : ℕ) (old : Told) (s : Inside) (take : Take) (next : NextRope) (h : HoldsRecording first t0 old s take next) where
+  abbrev then : Inside
+  then = record s { parts = h.before }
+
+  abbrev last : State
+  last = last_of first s
+
+  abbrev bytes : List ℕ
+  bytes = taken (tapes_of s) take
+
+  abbrev effect : Effect Tagged
+  effect = recorded_by last (tapes_of s) take
+
+  abbrev pub b : Rebuilt
+  b = h.makes.stood.b
+
+  abbrev pub change : Change
+  change = change_in b next
+
+  abbrev addresses : List ℕ
+  addresses = next.addresses.items
+
+  tables_then : IsSure then b h.makes.stood.after last
+  tables_then = is_sure first t0 old then h.makes.stood h.makes.sure
+
+  pub in_shape : b.shape ≡ s.journal.shape
+  in_shape = same_shape first t0 old then h.makes.stood h.makes.sure
+
+  number : b.next ≡ last.next
+  number = same_number first t0 old then h.makes.stood h.makes.sure
+
+  pub below : AreBelow s.journal.shape.blocks addresses
+  below = subst (λ (x : Shape). AreBelow x.blocks addresses) in_shape (below_at b addresses h.spare)
+
+  pub distinct : AreDistinct addresses
+  distinct = distinct_at addresses h.differ
+
+  samples_are : samples_in next.pieces ≡ take.len
+  samples_are = recorded_samples next.id take.len next.pieces h.pieces
+
+  many_bytes : length bytes ≡ take.len
+  many_bytes = taken_as first t0 old then take h.makes
+
+  samples_many : length (recording last.next bytes) ≡ take.len
+  samples_many = recorded_length last.next 0 bytes ∙ many_bytes
+
+  spelled_as : (form : ℕ) → next_change form next ≡ change_of form addresses effect
+  spelled_as form =
+      ap (λ (is : Bool). cond is (cond (form == 2) (kinds.Wide next.id (samples_in next.pieces) addresses) (kinds.Recorded next.id (samples_in next.pieces) addresses)) (kinds.Edited next.id next.pieces)) h.recorded
+      ∙ ap (λ n. cond (form == 2) (kinds.Wide n (samples_in next.pieces) addresses) (kinds.Recorded n (samples_in next.pieces) addresses)) (h.ready.number ∙ number)
+      ∙ ap (λ n. cond (form == 2) (kinds.Wide last.next n addresses) (kinds.Recorded last.next n addresses)) (samples_are ∙ sym samples_many)
+
+  pub the_change : change ≡ change_of b.form addresses effect
+  the_change = spelled_as b.form
+
+  unrefused : refusal last (tapes_of s) (calls.Record take) ≡ None
+  unrefused = recording_free first t0 old then take h.makes h.free
+
+  pub may : (caller : ℕ) → MayCommit last (tapes_of s) caller (calls.Record take) effect
+  may caller = may_commit last (tapes_of s) caller (calls.Record take) effect (recording_makes last (tapes_of s) take) tables_then.in_state unrefused refl
+
+  count : (block : ℕ) → block ≡ s.journal.shape.block → length addresses ≡ blocks_for block (length (recording last.next bytes))
+  count block is = h.many ∙ ap (λ n. blocks_for n take.len) (sym is) ∙ ap (blocks_for block) (sym samples_many)
+
+  pub upright_then : Upright first t0 old s h.makes.stood.fill b b
+  upright_then = upright_by first t0 old then h.makes.stood h.makes.sure s.parts
+
+  frame : frame_size last.form last.kept.shape.block effect ≡ 5 + length next.payload.items
+  frame =
+      let form : b.form ≡ last.form = h.makes.stood.upright.fills.form in
+      let size = size_again b.form last.kept.shape.block addresses effect (count last.kept.shape.block (ap (λ (x : Shape). x.block) h.makes.stood.upright.seated.shape)) in
+      ap (λ n. 5 + n) (sym (ap length h.ready.payload ∙ ap (λ x. length (spelling x)) the_change ∙ size ∙ ap (λ f. 17 + sizes.address_size f * blocks_for last.kept.shape.block (length (recording last.next bytes))) form))
+
+  reply : reply_of last (tapes_of s) (calls.Record take) ≡ replies.Rope next.id (samples_in next.pieces)
+  reply = ap (replies.Rope last.next) (samples_many ∙ sym samples_are) ∙ ap (λ n. replies.Rope n (samples_in next.pieces)) (sym (h.ready.number ∙ number))
+
+  abbrev pub later : Spot → Tagged
+  later = later_fill h.makes.stood.fill last.next bytes
+
+  brings_kept : durable_by later (acted b change).kept ≡ changed last.form last.kept effect
+  brings_kept =
+      ap (λ c. durable_by later (acted b c).kept) the_change
+      ∙ brings_recording h.makes.stood.fill h.makes.stood.upright.fills.spots last.next bytes b addresses tables_then.tables.placed (subst (λ n. b.next ≤ n) number (omega arith))
+      ∙ ap (λ f. changed f (durable_by h.makes.stood.fill b.kept) effect) h.makes.stood.upright.fills.form
+      ∙ ap (λ d. changed last.form d effect) h.makes.stood.upright.fills.kept
+
+  -- ---- after the write
+
+  module _ (new : Told) (laws : Foundations) (later_on : old.calls ≤ new.calls) (sizes_same : new.size ≡ old.size) (to_old : IsTrue new.honest → IsTrue old.honest)
+      (moments : IsTrue old.honest → IsLater old new) (wrote : IsTrue old.honest → WroteAt s.journal.shape addresses old new) where
+    spared : IsTrue old.honest → SparesWithin s.journal.shape b old new
+    spared is =
+        subst (λ (x : Shape). SparesWithin x b old new) in_shape
+        (spares_within b addresses (below_at b addresses h.spare) (free_at b addresses h.spare tables_then.tables.used) old new
+        (subst (λ (x : Shape). WroteAt x addresses old new) (sym in_shape) (wrote is)))
+
+    held_on : (after' : Rebuilt) → IsHeld first (tapes_of s) t0 s.journal old b after' s.history.items → IsTrue old.honest → IsHeld first (tapes_of s) t0 s.journal new b after' s.history.items
+    held_on after' held is = (writes_carry laws old new).spared first (tapes_of s) t0 s.journal b after' s.history.items (moments is) held tables_then.in_state (spared is)
+
+    upright_on : Upright first t0 new s h.makes.stood.fill b b
+    upright_on = let up = upright_then in record {
+      legal = up.legal;
+      valid = up.valid;
+      quiet = up.quiet;
+      fills = up.fills;
+      seated = up.seated;
+      acks = acks_later t0 s.history.items old.calls new.calls up.acks later_on;
+      held = λ is. held_on b (up.held (to_old is)) (to_old is);
+    }
+
+    -- all was written
+    pub trying_recording : (caller : ℕ) → (IsTrue old.honest → HasBytes new.bytes s.journal.shape addresses bytes) → Trying first t0 new s b next change effect caller (calls.Record take)
+    trying_recording caller has = record {
+      fill = h.makes.stood.fill;
+      upright = upright_on;
+      sure = h.makes.sure;
+      in_journal = tables_then.in_journal;
+      ready = h.ready;
+      addresses = addresses;
+      change = the_change;
+      may = may caller;
+      reply = reply;
+      in_range = tt;
+      later_fill = later;
+      brings_it = record { spots = later_spots h.makes.stood.fill h.makes.stood.upright.fills.spots last.next bytes; kept = brings_kept };
+      does = λ is.
+          let sound = (standing_gives laws new).now first (tapes_of s) t0 s.journal b b s.history.items (moments (to_old is)).is (upright_on.held is) in
+          ap (λ c. recovered new.bytes (acted b c)) the_change
+          ∙ call_does new.bytes b last (tapes_of s) (calls.Record take) addresses effect sound.fills sound.form sound.placed refl
+          (count b.shape.block (ap (λ (x : Shape). x.block) in_shape), h.differ, h.spare)
+          (subst (λ (x : Shape). HasBytes new.bytes x addresses (bytes_of (recording last.next bytes))) (sym in_shape)
+          (subst (λ (l : List ℕ). HasBytes new.bytes s.journal.shape addresses l) (sym (bytes_recorded last.next 0 bytes)) (has (to_old is))));
+      frame = frame;
+      size = let is = h.makes.stood.size in omega (arith, is, sizes_same);
+    }
+
+    -- a write failed, and the blocks are free again
+    pub stood_unwritten : (caller : ℕ) (parts : Parts) (history : Vec Entry Global) → Rebuilds parts b → history.items ≡ s.history.items ++ entry_of caller (calls.Record take) (replies.No why.DiskFault) new.calls ∷ []
+        → Stood first t0 new (record s { parts = parts; history = history })
+    stood_unwritten caller parts history shows items =
+        let up = upright_on in
+        let back : Stood first t0 new (record s { parts = parts }) = record {
+          fill = h.makes.stood.fill;
+          b = b;
+          after = b;
+          upright = record { legal = up.legal; valid = up.valid; quiet = up.quiet; fills = up.fills; seated = up.seated; acks = up.acks; held = up.held };
+          tables = inl (record { sure = h.makes.sure; in_journal = tables_then.in_journal; in_state = tables_then.in_state; tables = shows; same = refl });
+          size = let is = h.makes.stood.size in omega (arith, is, sizes_same);
+        } in
+        let faults = (may caller).faults in
+        stood_noted first t0 new (record s { parts = parts }) history (entry_of caller (calls.Record take) (replies.No why.DiskFault) new.calls) items refl faults.answers (faults.stays new.calls)
+        (λ is. (moments (to_old is)).is) (entries_count new) back

@@ -1,0 +1,20 @@
+use Rattle.std.proofs.Common.{◌≡◌, sym, ◌∙◌, ap, subst}
+use Rattle.std.specs.Prelude.{IfOk}
+use Rattle.voice_units.specs.declared.shapes.Shape.{Shape}
+use Rattle.voice_model.specs.Replay.{acted}
+use Rattle.checkpoint.proofs.Held.{used_alone}
+use Rattle.voice_store.specs.Trying.{IsBaseOf}
+use Rattle.voice_store.proofs.Switched.{acted_shape}
+use Rattle.voice_store.proofs.inside.Inside.base_after.Goals as goal
+
+pub base_of-requires : goal.base_of-requires
+base_of-requires c =
+    let r = c.requires in
+    (acted r.b r.c, used_alone c.in_ok-after.after (acted r.b r.c) (c.in_ok-after.ensures r.b r.c r.ready (r.in_shape ∙ sym c.shape-shape.ensures)))
+
+pub returns : goal.returns
+returns c =
+    λ b c' ready shape.
+    let here = shape ∙ sym c.shape-shape.ensures in
+    subst (λ (x : Shape). IfOk c.base_of.result (IsBaseOf x (acted b c'))) c.shape-shape.ensures
+    (c.base_of.ensures (acted b c') (used_alone c.in_ok-after.after (acted b c') (c.in_ok-after.ensures b c' ready here)) (acted_shape b c' ready.kind ∙ here))

@@ -1,0 +1,45 @@
+use Rattle.std.proofs.Common.{◌≡◌, ◌+◌, ◌≤◌, ◌++◌, ◌∷◌, [], ℕ, sym, arith}
+use Rattle.voice_outside.specs.Counters.{HasRisen}
+use Rattle.voice_model.specs.declared.calls.Reply.{Reply}
+use Rattle.voice_store.specs.Facts.{Adds, AddsLanding, IsFault, entry_of, most_calls}
+use Rattle.voice_store.proofs.Landed.{goes_on, risen_later, adds_after, landing_same, if_ok, on_error, most_of}
+use Rattle.voice_store.proofs.inside.Inside.land_and_change.Goals as goal
+
+pub change-requires-clause-stood : goal.change-requires-clause-stood
+change-requires-clause-stood g c κs within =
+    let stood = c.requires.stood in
+    (stood.0, stood.1, c.land_first.ensures.stood stood.0 stood.1 stood.2)
+
+pub returns-clause-goes : goal.returns-clause-goes
+returns-clause-goes g c = λ block.
+    let most = most_of block c.args.call c.requires.built c.requires.changing in
+    let n = most.1 in
+    goes_on 2 most.0 (most_calls block c.args.call) (g.D.Disk.told c.args.disk.now) (g.D.Disk.told c.land_first.new.disk) (g.D.Disk.told c.change.new.disk)
+    c.land_first.ensures.goes (c.change.ensures.goes block most.0 most.1) (omega (arith, n))
+
+pub returns-clause-cause : goal.returns-clause-cause
+returns-clause-cause g c =
+    let old = (g.D.Disk.told c.args.disk.now).faults in
+    let mid = (g.D.Disk.told c.land_first.new.disk).faults in
+    let new = (g.D.Disk.told c.change.new.disk).faults in
+    if_ok (λ (reply : Reply). IsFault reply → HasRisen mid new) (λ (reply : Reply). IsFault reply → HasRisen old new)
+    (λ reply h fault. risen_later old mid new c.land_first.ensures.goes.faults (h fault)) c.change.result c.change.ensures.cause
+
+pub returns-clause-entry : goal.returns-clause-entry
+returns-clause-entry g c =
+    let old = c.args.self.now.history.items in
+    let mid = c.land_first.new.self.history.items in
+    let new = c.change.new.self.history.items in
+    let ack = (g.D.Disk.told c.change.new.disk).calls in
+    if_ok (λ (reply : Reply). new ≡ mid ++ entry_of c.args.caller c.args.call reply ack ∷ []) (λ (reply : Reply). Adds c.args.caller c.args.call reply ack old new)
+    (λ reply h. adds_after c.args.caller c.args.call reply ack old mid new c.land_first.ensures.history h) c.change.result c.change.ensures.items
+
+pub returns-clause-err : goal.returns-clause-err
+returns-clause-err g c =
+    let old = c.args.self.now.history.items in
+    let mid = c.land_first.new.self.history.items in
+    let new = c.change.new.self.history.items in
+    on_error (new ≡ mid) (AddsLanding old new) (λ h. landing_same old mid new c.land_first.ensures.history h) c.change.result c.change.ensures.err
+
+pub returns-clause-stood : goal.returns-clause-stood
+returns-clause-stood g c = λ first t0 stood. c.change.ensures.stood first t0 (c.land_first.ensures.stood first t0 stood)

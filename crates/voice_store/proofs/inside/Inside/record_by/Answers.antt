@@ -1,0 +1,95 @@
+use Rattle.std.proofs.Common.{◌≤◌, ◌∙◌, sym, ap, subst}
+use Rattle.voice_units.specs.declared.shapes.Shape.{Shape}
+use Rattle.voice_units.specs.Blocks.{blocks_for}
+use Rattle.voice_blocks.specs.Holders.{open_in}
+use Rattle.voice_store.specs.Stood.{last_of, tapes_of}
+use Rattle.voice_store.specs.Keeping.{recorded_by}
+use Rattle.voice_store.proofs.Kept.{is_sure, same_parts, same_shape}
+use Rattle.voice_store.proofs.Fewer.{long, enough}
+use Rattle.voice_store.proofs.Written.{change_in, holding}
+use Rattle.voice_store.proofs.inside.Inside.record_by.Goals as goal
+
+pub ready_recording-requires-clause-parts : goal.ready_recording-requires-clause-parts
+ready_recording-requires-clause-parts g c =
+    let way = c.requires.way in
+    let s = c.args.self.now in
+    let disk = g.D.Disk.told c.args.disk.now in
+    record {
+      what = way.2.makes.stood.b;
+      shows = (is_sure way.0 way.1 disk s way.2.makes.stood way.2.makes.sure).tables;
+      in_shape = same_shape way.0 way.1 disk s way.2.makes.stood way.2.makes.sure ∙ sym c.shape-shape.ensures;
+    }
+
+pub ready_recording-requires-clause-most : goal.ready_recording-requires-clause-most
+ready_recording-requires-clause-most g c =
+    let way = c.requires.way in
+    long way.0 way.1 (g.D.Disk.told c.args.disk.now) c.args.self.now c.args.take way.2.makes
+
+pub ready_recording-requires-clause-free : goal.ready_recording-requires-clause-free
+ready_recording-requires-clause-free g c =
+    let way = c.requires.way in
+    let s = c.args.self.now in
+    subst (λ (x : Shape). blocks_for x.block c.args.take.len ≤ open_in s.parts.blocks.holders) (sym c.shape-shape.ensures)
+    (enough way.0 way.1 (g.D.Disk.told c.args.disk.now) s c.args.take way.2.makes)
+
+pub returns-in_err-next-clause-stood : goal.returns-in_err-next-clause-stood
+returns-in_err-next-clause-stood g c = λ first t0 way.
+    let s = c.args.self.now in
+    let disk = g.D.Disk.told c.args.disk.now in
+    same_parts first t0 disk s way.makes.stood way.makes.sure c.ready_recording.new.parts
+    (c.in_err-next.ensures.err way.makes.stood.b (is_sure first t0 disk s way.makes.stood way.makes.sure).tables)
+
+pub plan-requires : goal.plan-requires
+plan-requires g c =
+    let way = c.requires.way in
+    let s = c.args.self.now in
+    let disk = g.D.Disk.told c.args.disk.now in
+    let b = way.2.makes.stood.b in
+    let shape = same_shape way.0 way.1 disk s way.2.makes.stood way.2.makes.sure in
+    record {
+      b = b;
+      c = change_in b c.in_ok-next.next;
+      ready = (c.in_ok-next.ensures.ready b (is_sure way.0 way.1 disk s way.2.makes.stood way.2.makes.sure).tables (shape ∙ sym c.shape-shape.ensures)).0;
+      in_shape = shape;
+    }
+
+pub returns-in_default-clause-stood : goal.returns-in_default-clause-stood
+returns-in_default-clause-stood g c = λ first t0 way.
+    let s = c.args.self.now in
+    let disk = g.D.Disk.told c.args.disk.now in
+    let b = way.makes.stood.b in
+    let tables = (is_sure first t0 disk s way.makes.stood way.makes.sure).tables in
+    let shape = same_shape first t0 disk s way.makes.stood way.makes.sure in
+    same_parts first t0 disk s way.makes.stood way.makes.sure c.give_back.new.parts
+    (c.give_back.ensures b (change_in b c.in_ok-next.next) (c.in_ok-next.ensures.ready b tables (shape ∙ sym c.shape-shape.ensures)).0)
+
+pub write_and_commit-requires-clause-holds : goal.write_and_commit-requires-clause-holds
+write_and_commit-requires-clause-holds g c κs within =
+    let first = c.requires.way.0 in
+    let t0 = c.requires.way.1 in
+    let way = c.requires.way.2 in
+    let s = c.args.self.now in
+    let disk = g.D.Disk.told c.args.disk.now in
+    let b = way.makes.stood.b in
+    let shape = same_shape first t0 disk s way.makes.stood way.makes.sure in
+    let ready = c.in_ok-next.ensures.ready b (is_sure first t0 disk s way.makes.stood way.makes.sure).tables (shape ∙ sym c.shape-shape.ensures) in
+    let next = c.in_ok-next.next in (
+      first,
+      t0,
+      holding first t0 disk s c.args.take c.args.need c.args.way way c.ready_recording.new.parts next ready.0 c.in_ok-next.ensures.recorded
+          (ready.1 ∙ ap (λ (x : Shape). blocks_for x.block c.args.take.len) c.shape-shape.ensures) ready.2 ready.3 ready.4,
+      c.in-Ok.ensures b (change_in b next) (last_of first s) (recorded_by (last_of first s) (tapes_of s) c.args.take) ready.0 shape way.goes way.free way.needs,
+    )
+
+pub returns-clause-stood : goal.returns-clause-stood
+returns-clause-stood g c = λ first t0 way.
+    let s = c.args.self.now in
+    let disk = g.D.Disk.told c.args.disk.now in
+    let b = way.makes.stood.b in
+    let shape = same_shape first t0 disk s way.makes.stood way.makes.sure in
+    let ready = c.in_ok-next.ensures.ready b (is_sure first t0 disk s way.makes.stood way.makes.sure).tables (shape ∙ sym c.shape-shape.ensures) in
+    let next = c.in_ok-next.next in
+    c.write_and_commit.ensures.stood first t0
+    (holding first t0 disk s c.args.take c.args.need c.args.way way c.ready_recording.new.parts next ready.0 c.in_ok-next.ensures.recorded
+    (ready.1 ∙ ap (λ (x : Shape). blocks_for x.block c.args.take.len) c.shape-shape.ensures) ready.2 ready.3 ready.4)
+    (c.in-Ok.ensures b (change_in b next) (last_of first s) (recorded_by (last_of first s) (tapes_of s) c.args.take) ready.0 shape way.goes way.free way.needs)

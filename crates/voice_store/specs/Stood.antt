@@ -1,0 +1,121 @@
+-- What a store keeps, between its calls.
+--     last_state first tapes history      the state after the history
+--     Fills fill b s      what is rebuilt, filled in so, is what outlives a crash of the state
+--     IsSeated journal size s      the journal's place and the size of the base are those of the state
+--     AcksRise low history high      the moments of the entries never fall, and lie between these
+--     Upright      the history is legal, and the disk holds it, whatever the tables show
+--     IsSure, IsUnsure      the tables show the state: nothing is in doubt, or a rope is ready to come
+--     Stood      all of it, but for the count of faults
+use Rattle.std.specs.Prelude.{◌≡◌, ◌⊎◌, ℕ, ◌+◌, ◌-◌, ◌^◌, ◌≤◌, Bool, true, false, List, [], ◌∷◌, length, replicate, Option, Some, None, IsTrue}
+use Rattle.std.specs.Arc.{arc_value}
+use Rattle.voice_units.specs.Spots.{Spot}
+use Rattle.voice_outside.specs.Disk.{Told}
+use Rattle.voice_journal.specs.Places.{JournalValue, landed as landed_seat}
+use Rattle.voice_journal.specs.Readings.{extent}
+use Rattle.voice_journal.specs.declared.seats.Doubt.{Doubt}
+use Rattle.voice_model.specs.Samples.{Tagged, spot_of}
+use Rattle.voice_model.specs.State.{State, LaneState, Pending, quiet_lane}
+use Rattle.voice_model.specs.Changes.{base_size, changed}
+use Rattle.voice_model.specs.Step.{Legal, Outcome, outcome_of, landed}
+use Rattle.voice_model.specs.Step as step
+use Rattle.voice_model.specs.Replay.{Rebuilt, durable_by, acted}
+use Rattle.voice_model.specs.Valid.{Every, IsState}
+use Rattle.voice_model.specs.declared.changes.Change.{Change}
+use Rattle.voice_model.specs.declared.calls.Entry.{Entry}
+use Rattle.voice_model.specs.declared.calls.Reply.{Reply}
+use Rattle.recovery.specs.Shown.{Rebuilds}
+use Rattle.recovery.specs.declared.parts.Parts.{Parts}
+use Rattle.next_ropes.specs.Ready.{IsReady}
+use Rattle.crash_laws.specs.Standing.{IsHeld}
+use Rattle.voice_store.specs.declared.inside.Doubted.{Doubted}
+use Rattle.voice_store.specs.declared.inside.Inside.{Inside}
+
+-- the state after the history
+abbrev pub last_state : State → List (List ℕ) → List Entry → State
+last_state first tapes history = step.after first tapes history
+
+abbrev pub tapes_of : Inside → List (List ℕ)
+tapes_of s = arc_value s.tapes
+
+abbrev pub last_of : State → Inside → State
+last_of first s = last_state first (tapes_of s) s.history.items
+
+-- what is rebuilt, filled in so, is what outlives a crash of the state
+pub record Fills (fill : Spot → Tagged) (b : Rebuilt) (s : State) : Type 0 where
+  pub spots : (x : Spot) → spot_of (fill x) ≡ x
+  pub kept : durable_by fill b.kept ≡ s.kept
+  pub form : b.form ≡ s.form
+
+-- the journal's place and the size of the base are those of the state
+pub record IsSeated (journal : JournalValue) (size : ℕ) (s : State) : Type 0 where
+  pub shape : s.kept.shape ≡ journal.shape
+  pub left : s.left + journal.seat.gate + 1 ≡ journal.shape.area
+  pub epoch : s.epoch ≡ journal.seat.epoch
+  pub base : size ≡ base_size s.form s.kept
+
+-- the moments of the entries never fall, and lie between these
+abbrev pub AcksRise : ℕ → List Entry → ℕ → Type 0
+AcksRise low [] high = low ≤ high
+AcksRise low (e ∷ es) high = (low ≤ e.ack) × AcksRise e.ack es high
+
+-- whether a reply tells of a device fault
+abbrev pub is_fault_of : Outcome → Bool
+is_fault_of Outcome.Answered = false
+is_fault_of _ = true
+
+abbrev pub is_fault : Entry → Bool
+is_fault e = is_fault_of (outcome_of e.reply)
+
+-- no lane has a job or a recording
+abbrev pub AreQuiet : List LaneState → Type 0
+AreQuiet lanes = lanes ≡ replicate (length lanes) quiet_lane
+
+-- the history is legal, and the disk holds it, whatever the tables show
+pub record Upright (first : State) (t0 : ℕ) (disk : Told) (s : Inside) (fill : Spot → Tagged) (b after : Rebuilt) : Type 0 where
+  pub legal : Legal first (tapes_of s) s.history.items
+  pub valid : IsState (last_of first s)
+  pub quiet : AreQuiet (last_of first s).lanes
+  pub fills : Fills fill b (last_of first s)
+  pub seated : IsSeated s.journal s.base (last_of first s)
+  pub acks : AcksRise t0 s.history.items disk.calls
+  pub held : IsTrue disk.honest → IsHeld first (tapes_of s) t0 s.journal disk b after s.history.items
+
+-- nothing is in doubt, and the tables show the state
+pub record IsSure (s : Inside) (b after : Rebuilt) (last : State) : Type 0 where
+  pub sure : s.doubt ≡ None
+  pub in_journal : s.journal.doubt ≡ None
+  pub in_state : last.doubt ≡ None
+  pub tables : Rebuilds s.parts b
+  pub same : after ≡ b
+
+abbrev pub in_form : ℕ → Parts → Parts
+in_form form parts = record parts { form = form }
+
+-- once what is in doubt has landed, and its rope is put in, the tables show the state
+pub record Lands (journal : JournalValue) (doubted : Doubted) (b after : Rebuilt) (last : State) (c : Change) (doubt : Doubt) : Type 0 where
+  pub tables : (parts : Parts) → Rebuilds parts (acted b c) → Rebuilds (in_form doubted.form parts) after
+  pub fill : Spot → Tagged
+  pub fills : Fills fill after (landed last)
+  pub seated : IsSeated (record journal { seat = landed_seat journal.seat doubt }) doubted.base (landed last)
+  pub valid : IsState (landed last)
+
+-- a change is in doubt, and its rope is ready to come
+pub record IsUnsure (s : Inside) (b after : Rebuilt) (last : State) : Type 0 where
+  pub doubted : Doubted
+  pub unsure : s.doubt ≡ Some doubted
+  pub pending : Pending
+  pub in_state : last.doubt ≡ Some pending
+  pub doubt : Doubt
+  pub in_journal : s.journal.doubt ≡ Some doubt
+  pub change : Change
+  pub ready : IsReady s.parts b doubted.next change
+  pub lands : Lands s.journal doubted b after last change doubt
+
+-- what a store keeps, between its calls, that was opened at moment t0
+pub record Stood (first : State) (t0 : ℕ) (disk : Told) (s : Inside) : Type 0 where
+  pub fill : Spot → Tagged
+  pub b : Rebuilt
+  pub after : Rebuilt
+  pub upright : Upright first t0 disk s fill b after
+  pub tables : IsSure s b after (last_of first s) ⊎ IsUnsure s b after (last_of first s)
+  pub size : extent s.journal.shape ≤ disk.size

@@ -1,0 +1,141 @@
+//! One call of the store.
+
+ghost use Rattle.std.specs.Prelude.{◌≡◌, ◌+◌, ◌≤◌, ◌<◌, ◌++◌, ◌∷◌, [], ℕ, None, true, false, is_some, IsTrue, IfSome, IfNone, IfOk, OnErr, vec_len, vec_capacity};
+ghost use Rattle.voice_outside.specs.Counters.{HasRisen};
+ghost use Rattle.voice_model.specs.State.{State};
+ghost use Rattle.voice_model.specs.Changes.{is_changing};
+ghost use Rattle.voice_model.specs.Step.{landing_failed};
+ghost use Rattle.voice_store.specs.Stood.{Stood, last_of, tapes_of};
+ghost use Rattle.voice_store.specs.Facts.{Adds, AddsLanding, Goes, HasRopes, IsFault, TakesAreIn, entry_of, is_built, most_calls};
+
+use crate::inside::Inside;
+use voice_model::{Call, Reply, Why};
+use voice_outside::Disk;
+use voice_units::{NoMemory, RopeId};
+
+// The rope whose length a call asks, if it does.
+fn asked_length(call: &Call) -> Option<RopeId>
+    requires { IsTrue (is_built call.now) }
+    ensures some { IfSome result (λ rope. call.now ≡ Call.Length rope) }
+    ensures none { IfNone result (IsTrue (is_changing call.now)) }
+{
+    match call {
+        Call::Length(rope) => Some(*rope),
+        Call::Record(_) => None,
+        Call::Concat(_) => None,
+        Call::Sub(_, _, _) => None,
+        Call::Replace(_, _, _, _) => None,
+        _ => unreachable!(),
+    }
+}
+
+impl Inside {
+    // Lands what is in doubt, if anything is; false exactly where that failed.
+    fn land_first<D: Disk>(&mut self, disk: &mut D) -> bool
+        requires stood { (first : State) × (t0 : ℕ) × Stood first t0 (D.told disk.old) self.old }
+        requires room { vec_len self.old.history + 2 ≤ vec_capacity self.old.history }
+        ensures goes { Goes 2 (D.told disk.old) (D.told disk.new) }
+        ensures cause { result ≡ false → HasRisen (D.told disk.old).faults (D.told disk.new).faults }
+        ensures sure { result ≡ true → self.new.doubt ≡ None }
+        ensures unsure { result ≡ false → (first : State) (t0 : ℕ) → Stood first t0 (D.told disk.old) self.old → IsTrue (is_some (last_of first self.new).doubt) }
+        ensures history { AddsLanding self.old.history.items self.new.history.items }
+        ensures room { vec_len self.new.history < vec_capacity self.new.history }
+        ensures tapes { self.new.tapes ≡ self.old.tapes }
+        ensures stood { (first : State) (t0 : ℕ) → Stood first t0 (D.told disk.old) self.old → Stood first t0 (D.told disk.new) self.new }
+    {
+        if self.doubt.is_none() {
+            return true;
+        }
+        self.settle(disk)
+    }
+
+    // Enters a call whose landing failed.
+    fn note_unlanded<D: Disk>(&mut self, disk: &D, caller: u16, call: Call) -> Reply
+        requires built { IsTrue (is_built call) }
+        requires room { vec_len self.old.history < vec_capacity self.old.history }
+        ensures items { self.new.history.items ≡ self.old.history.items ++ entry_of caller call result (D.told disk.now).calls ∷ [] }
+        ensures rest { self.new ≡ record self.old { history = self.new.history } }
+        ensures stood { (first : State) (t0 : ℕ) → Stood first t0 (D.told disk.now) self.old → IsTrue (landing_failed (last_of first self.old) call) → Stood first t0 (D.told disk.now) self.new }
+    {
+        self.note(disk, caller, call, Reply::No(Why::DiskFault));
+        Reply::No(Why::DiskFault)
+    }
+
+    // Makes a change, where nothing is in doubt.
+    fn change<D: Disk>(&mut self, disk: &mut D, caller: u16, call: Call) -> Result<Reply, NoMemory>
+        requires stood { (first : State) × (t0 : ℕ) × Stood first t0 (D.told disk.old) self.old }
+        requires sure { self.old.doubt ≡ None }
+        requires built { IsTrue (is_built call) }
+        requires changing { IsTrue (is_changing call) }
+        requires takes { TakesAreIn (tapes_of self.old) call }
+        requires ropes { HasRopes call }
+        requires room { vec_len self.old.history < vec_capacity self.old.history }
+        ensures goes { (block calls : ℕ) → most_calls block call ≡ calls + 2 → Goes calls (D.told disk.old) (D.told disk.new) }
+        ensures cause { IfOk result (λ reply. IsFault reply → HasRisen (D.told disk.old).faults (D.told disk.new).faults) }
+        ensures items { IfOk result (λ reply. self.new.history.items ≡ self.old.history.items ++ entry_of caller call reply (D.told disk.new).calls ∷ []) }
+        ensures err { OnErr result (self.new.history.items ≡ self.old.history.items) }
+        ensures tapes { self.new.tapes ≡ self.old.tapes }
+        ensures stood { (first : State) (t0 : ℕ) → Stood first t0 (D.told disk.old) self.old → Stood first t0 (D.told disk.new) self.new }
+    {
+        match call {
+            Call::Record(take) => self.record(disk, caller, take),
+            Call::Concat(ropes) => self.edit(disk, caller, Call::Concat(ropes)),
+            Call::Sub(rope, start, len) => self.edit(disk, caller, Call::Sub(rope, start, len)),
+            Call::Replace(rope, start, len, with) => {
+                self.edit(disk, caller, Call::Replace(rope, start, len, with))
+            }
+            _ => unreachable!(),
+        }
+    }
+
+    // Makes a call of a kind that makes changes, once what is in doubt has landed.
+    fn land_and_change<D: Disk>(
+        &mut self,
+        disk: &mut D,
+        caller: u16,
+        call: Call,
+    ) -> Result<Reply, NoMemory>
+        requires stood { (first : State) × (t0 : ℕ) × Stood first t0 (D.told disk.old) self.old }
+        requires built { IsTrue (is_built call) }
+        requires changing { IsTrue (is_changing call) }
+        requires takes { TakesAreIn (tapes_of self.old) call }
+        requires ropes { HasRopes call }
+        requires room { vec_len self.old.history + 2 ≤ vec_capacity self.old.history }
+        ensures goes { (block : ℕ) → Goes (most_calls block call) (D.told disk.old) (D.told disk.new) }
+        ensures cause { IfOk result (λ reply. IsFault reply → HasRisen (D.told disk.old).faults (D.told disk.new).faults) }
+        ensures entry { IfOk result (λ reply. Adds caller call reply (D.told disk.new).calls self.old.history.items self.new.history.items) }
+        ensures err { OnErr result (AddsLanding self.old.history.items self.new.history.items) }
+        ensures tapes { self.new.tapes ≡ self.old.tapes }
+        ensures stood { (first : State) (t0 : ℕ) → Stood first t0 (D.told disk.old) self.old → Stood first t0 (D.told disk.new) self.new }
+    {
+        if !self.land_first(disk) {
+            return Ok(self.note_unlanded(disk, caller, call));
+        }
+        self.change(disk, caller, call)
+    }
+
+    /// Makes a call for a caller, and adds its entry to the history, after a landing where a change was in doubt and the call is of a kind that makes changes. After `NoMemory` nothing of the call is done, but a change in doubt may have landed.
+    pub(crate) fn apply<D: Disk>(
+        &mut self,
+        disk: &mut D,
+        caller: u16,
+        call: Call,
+    ) -> Result<Reply, NoMemory>
+        requires stood { (first : State) × (t0 : ℕ) × Stood first t0 (D.told disk.old) self.old }
+        requires built { IsTrue (is_built call) }
+        requires takes { TakesAreIn (tapes_of self.old) call }
+        requires ropes { HasRopes call }
+        ensures entry { IfOk result (λ reply. Adds caller call reply (D.told disk.new).calls self.old.history.items self.new.history.items) }
+        ensures err { OnErr result (AddsLanding self.old.history.items self.new.history.items) }
+        ensures cause { IfOk result (λ reply. IsFault reply → HasRisen (D.told disk.old).faults (D.told disk.new).faults) }
+        ensures goes { (block : ℕ) → Goes (most_calls block call) (D.told disk.old) (D.told disk.new) }
+        ensures tapes { self.new.tapes ≡ self.old.tapes }
+        ensures stood { (first : State) (t0 : ℕ) → Stood first t0 (D.told disk.old) self.old → Stood first t0 (D.told disk.new) self.new }
+    {
+        self.reserve(2)?;
+        if let Some(rope) = asked_length(&call) {
+            return Ok(self.tell_length(disk, caller, rope));
+        }
+        self.land_and_change(disk, caller, call)
+    }
+}

@@ -1,0 +1,255 @@
+//! A change that is ready gets into the journal, and its call is entered.
+
+ghost use Rattle.std.specs.Prelude.{◌≡◌, ◌+◌, ◌≤◌, ◌<◌, ◌^◌, ◌++◌, ◌∷◌, [], ℕ, None, Some, length, vec_len, vec_capacity, IfOk};
+ghost use Rattle.voice_units.specs.Spots.{samples_in};
+ghost use Rattle.voice_outside.specs.Counters.{HasRisen};
+ghost use Rattle.voice_journal.specs.Readings.{extent, framed_size};
+ghost use Rattle.voice_model.specs.Samples.{Tagged};
+ghost use Rattle.voice_model.specs.State.{State, Effect};
+ghost use Rattle.voice_model.specs.Changes.{base_size, changed};
+ghost use Rattle.voice_model.specs.Replay.{Rebuilt, acted};
+ghost use Rattle.voice_model.specs.declared.Change.{Change};
+ghost use Rattle.recovery.specs.Shown.{Rebuilds};
+ghost use Rattle.checkpoint.specs.Compact.{ShowsUsed};
+ghost use Rattle.next_ropes.specs.Ready.{IsReady};
+ghost use Rattle.voice_store.specs.Stood.{Stood, last_of};
+ghost use Rattle.voice_store.specs.Ways.{FitsBehind, FitsOther};
+ghost use Rattle.voice_store.specs.Trying.{IsBaseOf, Trying, IsReadyIn, IsPlan, CanGo};
+ghost use Rattle.voice_store.specs.Facts.{Goes, IsFault, entry_of};
+
+use crate::entering::enter;
+use crate::inside::{Doubted, Inside};
+use checkpoint::compact_parts;
+use crash_laws::laws::foundations;
+use next_ropes::{NextRope, give_back, parts_after, perform};
+use recovery::Parts;
+use std::alloc::Global;
+use voice_journal::{Fault, Payloads};
+use voice_model::{Call, Reply, Why};
+use voice_outside::Disk;
+use voice_units::{NoMemory, Shape};
+
+/// A base of the state after a change, in its form.
+#[derive(Drop)]
+pub(crate) struct Base {
+    pub(crate) form: u8,
+    pub(crate) payloads: Payloads,
+}
+
+/// How a change gets into the journal, with all that it takes: behind the other records, where a base takes so many bytes then; or within a base, in the other area.
+#[derive(Drop)]
+pub(crate) enum Plan {
+    Append(u64),
+    Switch(Base),
+}
+
+// A base of these tables: in form 2 where that fits an area, or is the form already.
+fn base_of(alloc: Global, shape: &Shape, parts: &Parts) -> Result<Base, NoMemory>
+    requires { (r : Rebuilt) × ShowsUsed parts.now r }
+    ensures { (r : Rebuilt) → ShowsUsed parts.now r → r.shape ≡ shape.now → IfOk result (IsBaseOf shape.now r) }
+{
+    let payloads = compact_parts(alloc, 2, parts)?;
+    if parts.form == 2 || payloads.size() <= u64::from(shape.area) - 17 {
+        return Ok(Base { form: 2, payloads });
+    }
+    Ok(Base {
+        form: 1,
+        payloads: compact_parts(alloc, 1, parts)?,
+    })
+}
+
+impl Inside {
+    /// The base that a switch writes as this rope comes.
+    pub(crate) fn base_after(&self, next: &NextRope) -> Result<Base, NoMemory>
+        requires { IsReadyIn self.now next.now }
+        ensures { (b : Rebuilt) (c : Change) → IsReady self.now.parts b next.now c → b.shape ≡ self.now.journal.shape → IfOk result (IsBaseOf self.now.journal.shape (acted b c)) }
+    {
+        let shape = self.journal.shape();
+        let after = parts_after(self.alloc, &self.parts, &shape, next)?;
+        base_of(self.alloc, &shape, &after)
+    }
+
+    // The change is done: the rope is put in, and the call is entered.
+    fn done<D: Disk>(
+        &mut self,
+        disk: &D,
+        caller: u16,
+        call: Call,
+        next: NextRope,
+        base: u64,
+    ) -> Reply
+        requires ready { IsReadyIn self.old next }
+        requires room { vec_len self.old.history < vec_capacity self.old.history }
+        ensures tables { (b : Rebuilt) (c : Change) → IsReady self.old.parts b next c → b.shape ≡ self.old.journal.shape → Rebuilds self.new.parts (acted b c) }
+        ensures items { self.new.history.items ≡ self.old.history.items ++ entry_of caller call (Reply.Rope next.id (samples_in next.pieces)) (D.told disk.now).calls ∷ [] }
+        ensures rest { self.new ≡ record self.old { parts = self.new.parts; base = base; history = self.new.history } }
+        ensures reply { result ≡ Reply.Rope next.id (samples_in next.pieces) }
+    {
+        let shape = self.journal.shape();
+        let id = next.id;
+        let len = next.pieces.length();
+        perform(&mut self.parts, &shape, next);
+        self.base = base;
+        enter(
+            &mut self.history,
+            caller,
+            call,
+            Reply::Rope(id, len),
+            disk.calls(),
+        );
+        Reply::Rope(id, len)
+    }
+
+    /// A device call failed before the change could be done: its blocks are free again, and the call is entered.
+    pub(crate) fn failed<D: Disk>(
+        &mut self,
+        disk: &D,
+        caller: u16,
+        call: Call,
+        next: NextRope,
+    ) -> Reply
+        requires ready { IsReadyIn self.old next }
+        requires room { vec_len self.old.history < vec_capacity self.old.history }
+        ensures tables { (b : Rebuilt) (c : Change) → IsReady self.old.parts b next c → Rebuilds self.new.parts b }
+        ensures items { self.new.history.items ≡ self.old.history.items ++ entry_of caller call (Reply.No Why.DiskFault) (D.told disk.now).calls ∷ [] }
+        ensures rest { self.new ≡ record self.old { parts = self.new.parts; history = self.new.history } }
+        ensures reply { result ≡ Reply.No Why.DiskFault }
+    {
+        give_back(&mut self.parts, next);
+        enter(
+            &mut self.history,
+            caller,
+            call,
+            Reply::No(Why::DiskFault),
+            disk.calls(),
+        );
+        Reply::No(Why::DiskFault)
+    }
+
+    // It is in doubt whether the change is done: the rope waits, and the call is entered.
+    fn wait<D: Disk>(&mut self, disk: &D, caller: u16, call: Call, doubted: Doubted) -> Reply
+        requires room { vec_len self.old.history < vec_capacity self.old.history }
+        ensures items { self.new.history.items ≡ self.old.history.items ++ entry_of caller call (Reply.No Why.InDoubt) (D.told disk.now).calls ∷ [] }
+        ensures rest { self.new ≡ record self.old { doubt = Some doubted; history = self.new.history } }
+        ensures reply { result ≡ Reply.No Why.InDoubt }
+    {
+        self.doubt = Some(doubted);
+        enter(
+            &mut self.history,
+            caller,
+            call,
+            Reply::No(Why::InDoubt),
+            disk.calls(),
+        );
+        Reply::No(Why::InDoubt)
+    }
+
+    // Appends a change, where it fits behind the other records.
+    fn append<D: Disk>(
+        &mut self,
+        disk: &mut D,
+        caller: u16,
+        call: Call,
+        next: NextRope,
+        need: u64,
+    ) -> Reply
+        requires size { extent self.old.journal.shape ≤ (D.told disk.old).size }
+        requires fits { self.old.journal.seat.gate + 5 + length next.payload.items < self.old.journal.shape.area }
+        requires sure { self.old.journal.doubt ≡ None }
+        requires ready { IsReadyIn self.old next }
+        requires room { vec_len self.old.history < vec_capacity self.old.history }
+        ensures goes { Goes 4 (D.told disk.old) (D.told disk.new) }
+        ensures cause { IsFault result → HasRisen (D.told disk.old).faults (D.told disk.new).faults }
+        ensures items { self.new.history.items ≡ self.old.history.items ++ entry_of caller call result (D.told disk.new).calls ∷ [] }
+        ensures tapes { self.new.tapes ≡ self.old.tapes }
+        ensures stood { (first : State) (t0 : ℕ) (b : Rebuilt) (c : Change) (effect : Effect Tagged) → Trying first t0 (D.told disk.old) self.old b next c effect caller call → FitsBehind (last_of first self.old) effect → need ≡ base_size (last_of first self.old).form (changed (last_of first self.old).form (last_of first self.old).kept effect) → Stood first t0 (D.told disk.new) self.new }
+    {
+        foundations();
+        match self.journal.append(disk, &next.payload) {
+            Ok(()) => self.done(disk, caller, call, next, need),
+            Err(Fault::Before) => self.failed(disk, caller, call, next),
+            Err(Fault::Doubt) => {
+                let form = self.parts.form;
+                self.wait(
+                    disk,
+                    caller,
+                    call,
+                    Doubted {
+                        next,
+                        base: need,
+                        form,
+                    },
+                )
+            }
+        }
+    }
+
+    // Writes a base of the state after a change, and makes its area current.
+    fn switch<D: Disk>(
+        &mut self,
+        disk: &mut D,
+        caller: u16,
+        call: Call,
+        next: NextRope,
+        base: &Base,
+    ) -> Reply
+        requires size { extent self.old.journal.shape ≤ (D.told disk.old).size }
+        requires fits { framed_size base.now.payloads + 17 ≤ self.old.journal.shape.area }
+        requires epoch { self.old.journal.seat.epoch < 2 ^ 48 }
+        requires sure { self.old.journal.doubt ≡ None }
+        requires ready { IsReadyIn self.old next }
+        requires room { vec_len self.old.history < vec_capacity self.old.history }
+        ensures goes { Goes 6 (D.told disk.old) (D.told disk.new) }
+        ensures cause { IsFault result → HasRisen (D.told disk.old).faults (D.told disk.new).faults }
+        ensures items { self.new.history.items ≡ self.old.history.items ++ entry_of caller call result (D.told disk.new).calls ∷ [] }
+        ensures tapes { self.new.tapes ≡ self.old.tapes }
+        ensures stood { (first : State) (t0 : ℕ) (b : Rebuilt) (c : Change) (effect : Effect Tagged) → Trying first t0 (D.told disk.old) self.old b next c effect caller call → FitsOther (last_of first self.old) effect → IsBaseOf self.old.journal.shape (acted b c) base.now → Stood first t0 (D.told disk.new) self.new }
+    {
+        foundations();
+        let size = base.payloads.size();
+        match self.journal.switch(disk, &base.payloads) {
+            Ok(()) => {
+                let reply = self.done(disk, caller, call, next, size);
+                self.parts.form = base.form;
+                reply
+            }
+            Err(Fault::Before) => self.failed(disk, caller, call, next),
+            Err(Fault::Doubt) => self.wait(
+                disk,
+                caller,
+                call,
+                Doubted {
+                    next,
+                    base: size,
+                    form: base.form,
+                },
+            ),
+        }
+    }
+
+    /// Does a change that is ready, and enters its call.
+    pub(crate) fn commit<D: Disk>(
+        &mut self,
+        disk: &mut D,
+        caller: u16,
+        call: Call,
+        next: NextRope,
+        plan: Plan,
+    ) -> Reply
+        requires size { extent self.old.journal.shape ≤ (D.told disk.old).size }
+        requires can { CanGo self.old.journal next plan }
+        requires sure { self.old.journal.doubt ≡ None }
+        requires ready { IsReadyIn self.old next }
+        requires room { vec_len self.old.history < vec_capacity self.old.history }
+        ensures goes { Goes 6 (D.told disk.old) (D.told disk.new) }
+        ensures cause { IsFault result → HasRisen (D.told disk.old).faults (D.told disk.new).faults }
+        ensures items { self.new.history.items ≡ self.old.history.items ++ entry_of caller call result (D.told disk.new).calls ∷ [] }
+        ensures tapes { self.new.tapes ≡ self.old.tapes }
+        ensures stood { (first : State) (t0 : ℕ) (b : Rebuilt) (c : Change) (effect : Effect Tagged) → Trying first t0 (D.told disk.old) self.old b next c effect caller call → IsPlan self.old.journal (last_of first self.old) effect (acted b c) plan → Stood first t0 (D.told disk.new) self.new }
+    {
+        match plan {
+            Plan::Append(need) => self.append(disk, caller, call, next, need),
+            Plan::Switch(base) => self.switch(disk, caller, call, next, &base),
+        }
+    }
+}

@@ -1,0 +1,160 @@
+//! Ropes made of other ropes.
+
+ghost use Rattle.std.specs.Prelude.{◌≡◌, ◌+◌, ◌*◌, ◌≤◌, ◌<◌, ◌==◌, ◌++◌, ◌∷◌, [], ℕ, List, Some, None, false, cond, IsTrue, IfSome, IfOk, OnErr, length, vec_len, vec_capacity};
+ghost use Rattle.voice_units.specs.declared.Piece.{Piece};
+ghost use Rattle.voice_outside.specs.Counters.{HasRisen};
+ghost use Rattle.voice_model.specs.Samples.{Tagged};
+ghost use Rattle.voice_model.specs.State.{State, Effect};
+ghost use Rattle.voice_model.specs.Changes.{base_size, changed};
+ghost use Rattle.voice_model.specs.Step.{is_journal_full};
+ghost use Rattle.voice_model.specs.Valid.{IsState};
+ghost use Rattle.voice_model.specs.Replay.{Rebuilt, acted};
+ghost use Rattle.voice_model.specs.declared.Change.{Change};
+ghost use Rattle.edits.specs.Shown.{ShowsState, IsMade};
+ghost use Rattle.next_ropes.specs.Ready.{IsReady};
+ghost use Rattle.voice_store.specs.Stood.{Stood};
+ghost use Rattle.voice_store.specs.Ways.{IsWay};
+ghost use Rattle.voice_store.specs.Trying.{IsPlan, IsReadyIn};
+ghost use Rattle.voice_store.specs.Facts.{Goes, HasRopes, IsFault, entry_of, is_edit};
+ghost use Rattle.voice_store.specs.Keeping.{MakesRope, HasWay};
+
+use crate::committing::Plan;
+use crate::inside::Inside;
+use crate::ways::Way;
+use crash_laws::laws::{disks_are_honest, foundations};
+use edits::{Made, concat, replace, sub};
+use next_ropes::{NextRope, give_back, ready_edit};
+use rope_algebra::Pieces;
+use voice_model::{Call, Reply, Why};
+use voice_outside::Disk;
+use voice_units::NoMemory;
+
+// The bytes that a rope of so many pieces takes in a base.
+pub(crate) fn rope_size(form: u8, pieces: u32) -> u64
+    ensures { result ≡ 24 + cond (form == 2) 1 0 + 16 * pieces }
+{
+    let last = if form == 2 { 1 } else { 0 };
+    24 + last + 16 * u64::from(pieces)
+}
+
+// The bytes of a base that grows, where they can be told.
+pub(crate) fn sum(base: u64, more: u64) -> Option<u64>
+    ensures { IfSome result (λ n. n ≡ base + more) }
+{
+    base.checked_add(more)
+}
+
+impl Inside {
+    /// How a rope that is ready gets into the journal, where that is not full.
+    pub(crate) fn plan(&self, next: &NextRope, need: u64, way: Way) -> Result<Plan, NoMemory>
+        requires { IsReadyIn self.now next.now }
+        ensures { (b : Rebuilt) (c : Change) (s : State) (effect : Effect Tagged) → IsReady self.now.parts b next.now c → b.shape ≡ self.now.journal.shape → IsWay s effect way → is_journal_full s effect ≡ false → need ≡ base_size s.form (changed s.form s.kept effect) → IfOk result (IsPlan self.now.journal s effect (acted b c)) }
+    {
+        let Way::Switch = way else {
+            return Ok(Plan::Append(need));
+        };
+        let base = self.base_after(next)?;
+        Ok(Plan::Switch(base))
+    }
+
+    // What an edit makes.
+    fn make(&self, call: &Call) -> Result<Made, NoMemory>
+        requires edits { IsTrue (is_edit call.now) }
+        requires ropes { HasRopes call.now }
+        ensures { (held : List (List Piece)) (s : State) (tapes : List (List ℕ)) → ShowsState held self.now.parts s → IsState s → IfOk result (λ made. IsMade made s tapes call.now) }
+    {
+        match call {
+            Call::Concat(ropes) => concat(self.alloc, &self.parts, ropes.items()),
+            Call::Sub(rope, start, len) => sub(&self.parts, *rope, *start, *len),
+            Call::Replace(rope, start, len, with) => {
+                replace(&self.parts, *rope, *start, *len, *with)
+            }
+            _ => unreachable!(),
+        }
+    }
+
+    // Keeps a rope of these pieces, in this way.
+    fn keep_by<D: Disk>(
+        &mut self,
+        disk: &mut D,
+        caller: u16,
+        call: Call,
+        pieces: Pieces,
+        need: u64,
+        way: Way,
+    ) -> Result<Reply, NoMemory>
+        requires way { (first : State) × (t0 : ℕ) × HasWay first t0 (D.told disk.old) self.old call pieces need way }
+        requires room { vec_len self.old.history < vec_capacity self.old.history }
+        ensures goes { Goes 6 (D.told disk.old) (D.told disk.new) }
+        ensures cause { IfOk result (λ reply. IsFault reply → HasRisen (D.told disk.old).faults (D.told disk.new).faults) }
+        ensures items { IfOk result (λ reply. self.new.history.items ≡ self.old.history.items ++ entry_of caller call reply (D.told disk.new).calls ∷ []) }
+        ensures err { OnErr result (self.new.history.items ≡ self.old.history.items) }
+        ensures tapes { self.new.tapes ≡ self.old.tapes }
+        ensures stood { (first : State) (t0 : ℕ) → HasWay first t0 (D.told disk.old) self.old call pieces need way → Stood first t0 (D.told disk.new) self.new }
+    {
+        foundations();
+        disks_are_honest(disk);
+        let _most = self.journal.epoch();
+        let next = ready_edit(self.alloc, &mut self.parts, pieces)?;
+        let Ok(plan) = self.plan(&next, need, way) else {
+            give_back(&mut self.parts, next);
+            return Err(NoMemory);
+        };
+        Ok(self.commit(disk, caller, call, next, plan))
+    }
+
+    // Keeps a rope of these pieces, unless the journal has no room.
+    fn keep<D: Disk>(
+        &mut self,
+        disk: &mut D,
+        caller: u16,
+        call: Call,
+        pieces: Pieces,
+    ) -> Result<Reply, NoMemory>
+        requires makes { (first : State) × (t0 : ℕ) × MakesRope first t0 (D.told disk.old) self.old call pieces }
+        requires room { vec_len self.old.history < vec_capacity self.old.history }
+        ensures goes { Goes 6 (D.told disk.old) (D.told disk.new) }
+        ensures cause { IfOk result (λ reply. IsFault reply → HasRisen (D.told disk.old).faults (D.told disk.new).faults) }
+        ensures items { IfOk result (λ reply. self.new.history.items ≡ self.old.history.items ++ entry_of caller call reply (D.told disk.new).calls ∷ []) }
+        ensures err { OnErr result (self.new.history.items ≡ self.old.history.items) }
+        ensures tapes { self.new.tapes ≡ self.old.tapes }
+        ensures stood { (first : State) (t0 : ℕ) → MakesRope first t0 (D.told disk.old) self.old call pieces → Stood first t0 (D.told disk.new) self.new }
+    {
+        let count = pieces.count();
+        let Some(need) = sum(self.base, rope_size(self.parts.form, count)) else {
+            return Err(NoMemory);
+        };
+        match self.way(16 + 16 * u64::from(count), need) {
+            Way::Full(most, left) => {
+                Ok(self.refuse(disk, caller, call, Why::JournalFull(most, left)))
+            }
+            Way::Append => self.keep_by(disk, caller, call, pieces, need, Way::Append),
+            Way::Switch => self.keep_by(disk, caller, call, pieces, need, Way::Switch),
+        }
+    }
+
+    /// Makes a rope of other ropes, where nothing is in doubt.
+    pub(crate) fn edit<D: Disk>(
+        &mut self,
+        disk: &mut D,
+        caller: u16,
+        call: Call,
+    ) -> Result<Reply, NoMemory>
+        requires stood { (first : State) × (t0 : ℕ) × Stood first t0 (D.told disk.old) self.old }
+        requires sure { self.old.doubt ≡ None }
+        requires edits { IsTrue (is_edit call) }
+        requires ropes { HasRopes call }
+        requires room { vec_len self.old.history < vec_capacity self.old.history }
+        ensures goes { Goes 6 (D.told disk.old) (D.told disk.new) }
+        ensures cause { IfOk result (λ reply. IsFault reply → HasRisen (D.told disk.old).faults (D.told disk.new).faults) }
+        ensures items { IfOk result (λ reply. self.new.history.items ≡ self.old.history.items ++ entry_of caller call reply (D.told disk.new).calls ∷ []) }
+        ensures err { OnErr result (self.new.history.items ≡ self.old.history.items) }
+        ensures tapes { self.new.tapes ≡ self.old.tapes }
+        ensures stood { (first : State) (t0 : ℕ) → Stood first t0 (D.told disk.old) self.old → Stood first t0 (D.told disk.new) self.new }
+    {
+        match self.make(&call)? {
+            Made::Refused(why) => Ok(self.refuse(disk, caller, call, why)),
+            Made::Rope(pieces) => self.keep(disk, caller, call, pieces),
+        }
+    }
+}

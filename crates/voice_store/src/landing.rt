@@ -1,0 +1,70 @@
+//! The landing of a change in doubt.
+
+ghost use Rattle.std.specs.Prelude.{◌≡◌, ◌+◌, ◌≤◌, ◌<◌, ℕ, None, true, false, IsTrue, vec_len, vec_capacity};
+ghost use Rattle.voice_model.specs.State.{State};
+ghost use Rattle.voice_model.specs.Replay.{Rebuilt, acted};
+ghost use Rattle.voice_model.specs.declared.Change.{Change};
+ghost use Rattle.voice_outside.specs.Counters.{HasRisen};
+ghost use Rattle.recovery.specs.Shown.{Rebuilds};
+ghost use Rattle.next_ropes.specs.Ready.{IsReady};
+ghost use Rattle.voice_store.specs.Stood.{Stood, in_form};
+ghost use Rattle.voice_store.specs.Trying.{IsReadyIn};
+ghost use Rattle.voice_store.specs.Facts.{AddsLanding, Goes};
+
+use crate::entering::enter;
+use crate::inside::{Doubted, Inside};
+use crash_laws::laws::foundations;
+use next_ropes::perform;
+use voice_model::{Call, Reply};
+use voice_outside::Disk;
+
+impl Inside {
+    // Puts the rope in whose change has landed.
+    fn take_in(&mut self, doubted: Doubted)
+        requires { IsReadyIn self.old doubted.next }
+        ensures tables { (b : Rebuilt) (c : Change) → IsReady self.old.parts b doubted.next c → b.shape ≡ self.old.journal.shape → Rebuilds (in_form b.form self.new.parts) (acted b c) }
+        ensures form { self.new.parts.form ≡ doubted.form }
+        ensures base { self.new.base ≡ doubted.base }
+        ensures rest { self.new ≡ record self.old { parts = self.new.parts; base = doubted.base } }
+    {
+        let shape = self.journal.shape();
+        perform(&mut self.parts, &shape, doubted.next);
+        self.parts.form = doubted.form;
+        self.base = doubted.base;
+    }
+
+    /// Lands what is in doubt, if anything is. False exactly where a device call failed; then all is as before.
+    pub(crate) fn settle<D: Disk>(&mut self, disk: &mut D) -> bool
+        requires stood { (first : State) × (t0 : ℕ) × Stood first t0 (D.told disk.old) self.old }
+        requires room { vec_len self.old.history < vec_capacity self.old.history }
+        ensures goes { Goes 2 (D.told disk.old) (D.told disk.new) }
+        ensures cause { result ≡ false → HasRisen (D.told disk.old).faults (D.told disk.new).faults }
+        ensures sure { result ≡ true → self.new.doubt ≡ None }
+        ensures failed { result ≡ false → self.new.history.items ≡ self.old.history.items }
+        ensures history { AddsLanding self.old.history.items self.new.history.items }
+        ensures len { vec_len self.new.history ≤ vec_len self.old.history + 1 }
+        ensures capacity { vec_capacity self.old.history ≤ vec_capacity self.new.history }
+        ensures tapes { self.new.tapes ≡ self.old.tapes }
+        ensures stood { (first : State) (t0 : ℕ) → Stood first t0 (D.told disk.old) self.old → Stood first t0 (D.told disk.new) self.new }
+    {
+        if self.doubt.is_none() {
+            return true;
+        }
+        foundations();
+        if self.journal.land(disk).is_err() {
+            return false;
+        }
+        let Some(doubted) = self.doubt.take() else {
+            return true;
+        };
+        self.take_in(doubted);
+        enter(
+            &mut self.history,
+            0,
+            Call::Landed,
+            Reply::Done,
+            disk.calls(),
+        );
+        true
+    }
+}

@@ -1,0 +1,93 @@
+//! Opens what a disk keeps.
+
+ghost use Rattle.std.specs.Prelude.{◌≡◌, ◌+◌, ◌-◌, ◌<◌, ◌^◌, ℕ, [], length, slice_get, Some, IsTrue, IfOk, IfErr};
+ghost use Rattle.voice_units.specs.Spots.{Spot};
+ghost use Rattle.voice_outside.specs.Counters.{HasRisen};
+ghost use Rattle.voice_model.specs.Samples.{Tagged, spot_of};
+ghost use Rattle.voice_model.specs.State.{State};
+ghost use Rattle.voice_model.specs.Changes.{base_size};
+ghost use Rattle.voice_model.specs.Replay.{Rebuilt, nothing_rebuilt, durable_by};
+ghost use Rattle.voice_model.specs.Image.{Reading, Replayed, reading, replayed, opened_from};
+ghost use Rattle.recovery.specs.Replayed.{records_of};
+ghost use Rattle.recovery.specs.Shown.{Rebuilds};
+ghost use Rattle.voice_store.specs.Stood.{Stood};
+ghost use Rattle.voice_store.specs.Facts.{Goes};
+
+use crate::inside::Inside;
+use checkpoint::compact_parts;
+use crash_laws::laws::foundations;
+use recovery::{Parts, ReplayError, replay};
+use std::alloc::Global;
+use std::sync::Arc;
+use voice_journal::{Journal, OpenError, Opened, Placed};
+use voice_model::Tapes;
+use voice_outside::Disk;
+use voice_units::{NoMemory, Shape};
+
+/// The place of a payload's gate on the disk, 0 where there is no such payload.
+fn place_of(payloads: &[Placed], k: u32) -> u64
+    ensures { (one : Placed) → slice_get payloads.now k ≡ Some one → result ≡ one.place }
+{
+    match payloads.get(k as usize) {
+        Some(payload) => payload.place,
+        None => 0,
+    }
+}
+
+/// The parts that payloads rebuild. One that is refused is damage at its gate's place.
+fn rebuild(alloc: Global, shape: &Shape, payloads: &[Placed]) -> Result<Parts, OpenError>
+    requires { length payloads.now < 2 ^ 32 - 1 }
+    ensures ok { IfOk result (λ parts. (b : Rebuilt) × (replayed (nothing_rebuilt shape.now) (records_of payloads.now) ≡ Replayed.All b) × Rebuilds parts b) }
+    ensures bad { IfErr result (λ e. (place : ℕ) → e ≡ OpenError.BadDisk place → (k : ℕ) × (replayed (nothing_rebuilt shape.now) (records_of payloads.now) ≡ Replayed.Refused k) × ((one : Placed) → slice_get payloads.now k ≡ Some one → place ≡ one.place)) }
+    ensures sound { IfErr result (λ e. ¬ (e ≡ OpenError.DiskFault)) }
+{
+    match replay(alloc, shape, payloads) {
+        Ok(parts) => Ok(parts),
+        Err(ReplayError::BadChange(k)) => Err(OpenError::BadDisk(place_of(payloads, k))),
+        Err(ReplayError::NoMemory) => Err(OpenError::NoMemory),
+    }
+}
+
+/// The bytes that a base of the parts takes, in their form.
+fn base_of(alloc: Global, parts: &Parts) -> Result<u64, NoMemory>
+    requires { (b : Rebuilt) × Rebuilds parts.now b }
+    ensures { (b : Rebuilt) (f : Spot → Tagged) → Rebuilds parts.now b → ((x : Spot) → spot_of (f x) ≡ x) → IfOk result (λ size. size ≡ base_size b.form (durable_by f b.kept)) }
+{
+    let payloads = compact_parts(alloc, parts.form, parts)?;
+    Ok(payloads.size())
+}
+
+impl Inside {
+    /// Opens what a disk keeps. It makes at most 5 device calls, and changes nothing.
+    pub(crate) fn open<D: Disk>(
+        alloc: Global,
+        disk: &mut D,
+        tapes: Arc<Tapes, Global>,
+    ) -> Result<Inside, OpenError>
+        ensures goes { Goes 5 (D.told disk.old) (D.told disk.new) }
+        ensures fields { IfOk result (λ s. (s.tapes ≡ tapes) × (s.history.items ≡ [])) }
+        ensures state { IfOk result (λ s. (first : State) × Stood first ((D.told disk.old).calls + 1) (D.told disk.new) s × (IsTrue (D.told disk.old).honest → opened_from (D.told disk.old).bytes ≡ Some first)) }
+        ensures bad { IfErr result (λ e. (place : ℕ) → e ≡ OpenError.BadDisk place → IsTrue (D.told disk.old).honest → reading (D.told disk.old).bytes ≡ Reading.Bad place) }
+        ensures fault { IfErr result (λ e. e ≡ OpenError.DiskFault → HasRisen (D.told disk.old).faults (D.told disk.new).faults) }
+    {
+        let Opened {
+            shape,
+            journal,
+            payloads,
+        } = Journal::open(alloc, disk)?;
+        foundations();
+        let parts = rebuild(alloc, &shape, &payloads)?;
+        let Ok(base) = base_of(alloc, &parts) else {
+            return Err(OpenError::NoMemory);
+        };
+        Ok(Inside {
+            alloc,
+            tapes,
+            journal,
+            parts,
+            doubt: None,
+            base,
+            history: Vec::new(alloc),
+        })
+    }
+}

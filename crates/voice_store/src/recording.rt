@@ -1,0 +1,226 @@
+//! Recordings.
+
+ghost use Rattle.std.specs.Prelude.{◌≡◌, ◌+◌, ◌*◌, ◌==◌, ◌≤◌, ◌<◌, ◌^◌, ◌++◌, ◌∷◌, [], ℕ, None, cond, length, IsTrue, IfOk, OnOk, OnErr, vec_len, vec_capacity};
+ghost use Rattle.voice_units.specs.Blocks.{blocks_for};
+ghost use Rattle.voice_outside.specs.Disk.{MakesAtMost};
+ghost use Rattle.voice_outside.specs.Counters.{HasRisen};
+ghost use Rattle.voice_blocks.specs.Holders.{open_in};
+ghost use Rattle.voice_model.specs.State.{State};
+ghost use Rattle.voice_model.specs.Changes as sizes;
+ghost use Rattle.voice_model.specs.Replay.{acted};
+ghost use Rattle.voice_model.specs.Tapes.{HasTake, taken};
+ghost use Rattle.fillings.specs.Laws.{HasBytes};
+ghost use Rattle.recording_writer.specs.Wrote.{WroteAt};
+ghost use Rattle.crash_laws.specs.Standing.{IsLater};
+ghost use Rattle.next_ropes.specs.Ready.{next_change};
+ghost use Rattle.voice_store.specs.Stood.{Stood, last_of, tapes_of};
+ghost use Rattle.voice_store.specs.Trying.{IsPlan};
+ghost use Rattle.voice_store.specs.Facts.{Goes, IsFault, entry_of};
+ghost use Rattle.voice_store.specs.Keeping.{HasRoom, HoldsRecording, MakesRecording, recorded_by, refused_by};
+
+use crate::committing::Plan;
+use crate::editing::{rope_size, sum};
+use crate::inside::Inside;
+use crate::ways::Way;
+use crash_laws::laws::{disks_are_honest, foundations};
+use next_ropes::{NextRope, give_back, ready_recording};
+use recording_writer::write_samples;
+use voice_model::{Call, Reply, Why};
+use voice_outside::Disk;
+use voice_units::{Failed, NoMemory, Shape, Take};
+
+// The most samples of a rope.
+const LONGEST: u32 = 1 << 30;
+
+// The greatest number of a rope.
+const LAST_ROPE: u64 = 1 << 48;
+
+// How many blocks so many samples take.
+fn blocks_needed(block: u32, len: u32) -> u32
+    requires least { 1 ≤ block }
+    requires most { len ≤ 2 ^ 30 }
+    requires block_limit { block ≤ 8192 }
+    ensures { result ≡ blocks_for block len }
+{
+    (len + (block - 1)) / block
+}
+
+// The bytes that an address takes in a record.
+fn address_width(form: u8) -> u64
+    ensures { result ≡ sizes.address_size form }
+{
+    if form == 2 { 4 } else { 2 }
+}
+
+// What a recording of so many samples adds to a base: its rope, and its file with the blocks, where it has any.
+fn growth(form: u8, block: u32, len: u32) -> u64
+    requires least { 1 ≤ block }
+    requires most { len ≤ 2 ^ 30 }
+    requires block_limit { block ≤ 8192 }
+    ensures { result ≡ 24 + cond (form == 2) 1 0 + cond (len == 0) 0 (34 + (4 + sizes.address_size form) * blocks_for block len) }
+{
+    if len == 0 {
+        return rope_size(form, 0);
+    }
+    let blocks = u64::from(blocks_needed(block, len));
+    rope_size(form, 1) + 18 + (4 + address_width(form)) * blocks
+}
+
+impl Inside {
+    // Why a recording of so many samples is refused, but for the journal's room.
+    fn refusal(&self, shape: &Shape, len: u32) -> Option<Why>
+        ensures { result ≡ refused_by self.now.parts.next shape.now.block (open_in self.now.parts.blocks.holders) len }
+    {
+        if len > LONGEST {
+            return Some(Why::TooLong(u64::from(len)));
+        }
+        if self.parts.next > LAST_ROPE {
+            return Some(Why::IdsSpent);
+        }
+        let need = blocks_needed(shape.block, len);
+        let free = self.parts.blocks.free();
+        if need > free {
+            return Some(Why::NoRoom(need, free));
+        }
+        None
+    }
+
+    // Writes the samples of a recording into the blocks of its rope.
+    fn write_recording<D: Disk>(
+        &self,
+        disk: &mut D,
+        take: Take,
+        next: &NextRope,
+        last: &mut [u8],
+    ) -> Result<(), Failed>
+        requires holds { (first : State) × (t0 : ℕ) × HoldsRecording first t0 (D.told disk.old) self.now take next.now }
+        requires block { length last.old ≡ self.now.journal.shape.block }
+        ensures made { MakesAtMost take.len (D.told disk.old) (D.told disk.new) result }
+        ensures moments { IsTrue (D.told disk.old).honest → IsLater (D.told disk.old) (D.told disk.new) }
+        ensures content { IsTrue (D.told disk.old).honest → WroteAt self.now.journal.shape next.now.addresses.items (D.told disk.old) (D.told disk.new) }
+        ensures written { IsTrue (D.told disk.old).honest → OnOk result (HasBytes (D.told disk.new).bytes self.now.journal.shape next.now.addresses.items (taken (tapes_of self.now) take)) }
+    {
+        disks_are_honest(disk);
+        let shape = self.journal.shape();
+        let samples = self.tapes.samples(take);
+        let result = write_samples(&shape, disk, &next.addresses, samples, last);
+        disks_are_honest(disk);
+        result
+    }
+
+    // Writes the samples of a recording whose rope is ready, and does its change.
+    fn write_and_commit<D: Disk>(
+        &mut self,
+        disk: &mut D,
+        caller: u16,
+        take: Take,
+        next: NextRope,
+        plan: Plan,
+        last: &mut [u8],
+    ) -> Reply
+        requires holds { (first : State) × (t0 : ℕ) × (h : HoldsRecording first t0 (D.told disk.old) self.old take next) × IsPlan self.old.journal (last_of first self.old) (recorded_by (last_of first self.old) (tapes_of self.old) take) (acted h.makes.stood.b (next_change h.makes.stood.b.form next)) plan }
+        requires block { length last.old ≡ self.old.journal.shape.block }
+        requires room { vec_len self.old.history < vec_capacity self.old.history }
+        ensures goes { Goes (6 + take.len) (D.told disk.old) (D.told disk.new) }
+        ensures cause { IsFault result → HasRisen (D.told disk.old).faults (D.told disk.new).faults }
+        ensures items { self.new.history.items ≡ self.old.history.items ++ entry_of caller (Call.Record take) result (D.told disk.new).calls ∷ [] }
+        ensures tapes { self.new.tapes ≡ self.old.tapes }
+        ensures stood { (first : State) (t0 : ℕ) (h : HoldsRecording first t0 (D.told disk.old) self.old take next) → IsPlan self.old.journal (last_of first self.old) (recorded_by (last_of first self.old) (tapes_of self.old) take) (acted h.makes.stood.b (next_change h.makes.stood.b.form next)) plan → Stood first t0 (D.told disk.new) self.new }
+    {
+        foundations();
+        let _most = self.journal.epoch();
+        let Ok(()) = self.write_recording(disk, take, &next, last) else {
+            return self.failed(disk, caller, Call::Record(take), next);
+        };
+        self.commit(disk, caller, Call::Record(take), next, plan)
+    }
+
+    // Keeps a recording, in this way.
+    fn record_by<D: Disk>(
+        &mut self,
+        disk: &mut D,
+        caller: u16,
+        take: Take,
+        need: u64,
+        way: Way,
+    ) -> Result<Reply, NoMemory>
+        requires way { (first : State) × (t0 : ℕ) × HasRoom first t0 (D.told disk.old) self.old take need way }
+        requires room { vec_len self.old.history < vec_capacity self.old.history }
+        ensures goes { Goes (6 + take.len) (D.told disk.old) (D.told disk.new) }
+        ensures cause { IfOk result (λ reply. IsFault reply → HasRisen (D.told disk.old).faults (D.told disk.new).faults) }
+        ensures items { IfOk result (λ reply. self.new.history.items ≡ self.old.history.items ++ entry_of caller (Call.Record take) reply (D.told disk.new).calls ∷ []) }
+        ensures err { OnErr result (self.new.history.items ≡ self.old.history.items) }
+        ensures tapes { self.new.tapes ≡ self.old.tapes }
+        ensures stood { (first : State) (t0 : ℕ) → HasRoom first t0 (D.told disk.old) self.old take need way → Stood first t0 (D.told disk.new) self.new }
+    {
+        let shape = self.journal.shape();
+        let mut last = vec![in self.alloc; 0u8; shape.block as usize]?;
+        let next = ready_recording(self.alloc, &mut self.parts, &shape, take.len)?;
+        let Ok(plan) = self.plan(&next, need, way) else {
+            give_back(&mut self.parts, next);
+            return Err(NoMemory);
+        };
+        Ok(self.write_and_commit(disk, caller, take, next, plan, &mut last))
+    }
+
+    // Records, where nothing refuses it but perhaps the journal.
+    fn record_unrefused<D: Disk>(
+        &mut self,
+        disk: &mut D,
+        caller: u16,
+        take: Take,
+    ) -> Result<Reply, NoMemory>
+        requires makes { (first : State) × (t0 : ℕ) × MakesRecording first t0 (D.told disk.old) self.old take }
+        requires room { vec_len self.old.history < vec_capacity self.old.history }
+        ensures goes { Goes (6 + take.len) (D.told disk.old) (D.told disk.new) }
+        ensures cause { IfOk result (λ reply. IsFault reply → HasRisen (D.told disk.old).faults (D.told disk.new).faults) }
+        ensures items { IfOk result (λ reply. self.new.history.items ≡ self.old.history.items ++ entry_of caller (Call.Record take) reply (D.told disk.new).calls ∷ []) }
+        ensures err { OnErr result (self.new.history.items ≡ self.old.history.items) }
+        ensures tapes { self.new.tapes ≡ self.old.tapes }
+        ensures stood { (first : State) (t0 : ℕ) → MakesRecording first t0 (D.told disk.old) self.old take → Stood first t0 (D.told disk.new) self.new }
+    {
+        let shape = self.journal.shape();
+        let form = self.parts.form;
+        let Some(need) = sum(self.base, growth(form, shape.block, take.len)) else {
+            return Err(NoMemory);
+        };
+        let blocks = u64::from(blocks_needed(shape.block, take.len));
+        match self.way(22 + address_width(form) * blocks, need) {
+            Way::Full(most, left) => {
+                Ok(self.refuse(
+                    disk,
+                    caller,
+                    Call::Record(take),
+                    Why::JournalFull(most, left),
+                ))
+            }
+            Way::Append => self.record_by(disk, caller, take, need, Way::Append),
+            Way::Switch => self.record_by(disk, caller, take, need, Way::Switch),
+        }
+    }
+
+    /// Records, where nothing is in doubt.
+    pub(crate) fn record<D: Disk>(
+        &mut self,
+        disk: &mut D,
+        caller: u16,
+        take: Take,
+    ) -> Result<Reply, NoMemory>
+        requires stood { (first : State) × (t0 : ℕ) × Stood first t0 (D.told disk.old) self.old }
+        requires sure { self.old.doubt ≡ None }
+        requires take { HasTake (tapes_of self.old) take }
+        requires room { vec_len self.old.history < vec_capacity self.old.history }
+        ensures goes { Goes (6 + take.len) (D.told disk.old) (D.told disk.new) }
+        ensures cause { IfOk result (λ reply. IsFault reply → HasRisen (D.told disk.old).faults (D.told disk.new).faults) }
+        ensures items { IfOk result (λ reply. self.new.history.items ≡ self.old.history.items ++ entry_of caller (Call.Record take) reply (D.told disk.new).calls ∷ []) }
+        ensures err { OnErr result (self.new.history.items ≡ self.old.history.items) }
+        ensures tapes { self.new.tapes ≡ self.old.tapes }
+        ensures stood { (first : State) (t0 : ℕ) → Stood first t0 (D.told disk.old) self.old → Stood first t0 (D.told disk.new) self.new }
+    {
+        let shape = self.journal.shape();
+        if let Some(why) = self.refusal(&shape, take.len) {
+            return Ok(self.refuse(disk, caller, Call::Record(take), why));
+        }
+        self.record_unrefused(disk, caller, take)
+    }
+}

@@ -1,0 +1,50 @@
+//! How a change gets into the journal.
+
+ghost use Rattle.std.specs.Prelude.{◌≡◌, ℕ};
+ghost use Rattle.voice_model.specs.State.{State, Effect};
+ghost use Rattle.voice_model.specs.Samples.{Tagged};
+ghost use Rattle.voice_model.specs.Changes.{frame_size, base_size, changed};
+ghost use Rattle.voice_store.specs.Stood.{IsSeated};
+ghost use Rattle.voice_store.specs.Ways.{IsWay};
+
+use crate::inside::Inside;
+
+/// How a change gets into the journal.
+#[derive(Clone, Copy, Debug, PartialEq, Eq)]
+pub(crate) enum Way {
+    /// Not at all: what it needs, and what is left.
+    Full(u64, u64),
+    /// Behind the other records.
+    Append,
+    /// Within a base of the state after it, in the other area.
+    Switch,
+}
+
+// The greatest epoch; there is no switch at it.
+const LAST_EPOCH: u64 = 1 << 48;
+
+impl Inside {
+    /// How a change whose record takes `frame` bytes gets into the journal, where a base of the state after it takes `need` bytes.
+    pub(crate) fn way(&self, frame: u64, need: u64) -> Way
+        ensures { (s : State) (effect : Effect Tagged) → IsSeated self.now.journal self.now.base s → frame ≡ frame_size s.form s.kept.shape.block effect → need ≡ base_size s.form (changed s.form s.kept effect) → IsWay s effect result }
+    {
+        let left = self.journal.left();
+        let area = u64::from(self.journal.shape().area) - 17;
+        if self.journal.epoch() == LAST_EPOCH {
+            if frame > left {
+                return Way::Full(frame, left);
+            }
+            return Way::Append;
+        }
+        if frame <= left && need <= self.base {
+            return Way::Append;
+        }
+        if need > area {
+            return Way::Full(need, area);
+        }
+        if frame <= left {
+            return Way::Append;
+        }
+        Way::Switch
+    }
+}
