@@ -86,7 +86,6 @@ pub record WritesCarry (old new : Told) : Type 0 where
       → n ≤ count * journal.shape.block → WritesWithin (block_place journal.shape address) n old new
       → AreFree address count b → (is_some (step.after first tapes history).doubt ≡ true → AreFree address count after)
       → IsHeld first tapes t0 journal new b after history
-
   -- writes into any blocks that have no place, where nothing is in doubt
   pub spared :
       (first : State) (tapes : List (List ℕ)) (t0 : ℕ) (journal : JournalValue) (b after : Rebuilt) (history : List Entry)
