@@ -69,7 +69,7 @@ check 'an option without its number' 2 '' 'voice: usage: voice format|run|make
 ' format --block
 check 'small blocks' 0 '' '' format --block 8 --blocks 16 --area 512 --grace 60 --lanes 4
 awk 'BEGIN { for (i = 0; i < 40; i++) print "1 record empty.ul" }' >"$work/forty.vs"
-expect 'a small journal is switched until it is full' sh -c "cd '$work' && [ \"\$('$top/voice' run forty.vs | tail -n 1)\" = '40 1 record: no journal-full 497 495' ]"
+expect 'a small journal gets full' sh -c "cd '$work' && [ \"\$('$top/voice' run forty.vs | tail -n 1)\" = '40 1 record: no journal-full 497 495' ]"
 
 head -c 4096 /dev/zero >"$work/voice.disk"
 again 'a disk of zeros' 7 '' 'voice: the disk is damaged at byte 0

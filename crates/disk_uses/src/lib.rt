@@ -1,4 +1,4 @@
-//! Tests of the journal, of blocks and of recordings over disks in memory, disks that stop, and a file.
+//! Tests of the journal, of blocks and of recordings over disks in memory, disks that stop, and a file; and the steps that such tests take.
 #![tactic(auto)]
 
 #[cfg(test)]
@@ -13,7 +13,6 @@ mod files;
 mod formatting;
 #[cfg(test)]
 mod recordings;
-#[cfg(test)]
-mod steps;
+pub mod steps;
 #[cfg(test)]
 mod switching;

@@ -1,0 +1,101 @@
+//! A fault at each device call of a script with a switch in it, and disks that stop.
+
+use crate::runs::run_script;
+use crate::tables::{FILLED, Found, SCRIPT, copy_of, full_disk, ropes_on};
+use std::alloc::Global;
+use std::sync::Wait;
+use std::test::Fail;
+use std::thread::Threads;
+use voice_disk::{FuseDisk, MemDisk};
+use voice_main::Status;
+use voice_model::{Entry, Reply, Why};
+
+// How many entries tell of a fault.
+fn faults_in(history: &[Entry]) -> usize {
+    history
+        .iter()
+        .filter(|entry| matches!(&entry.reply, Reply::No(Why::DiskFault | Why::InDoubt)))
+        .count()
+}
+
+fn is_in_doubt(history: &[Entry]) -> bool {
+    history
+        .iter()
+        .any(|entry| matches!(&entry.reply, Reply::No(Why::InDoubt)))
+}
+
+// The length of a rope that was acknowledged.
+fn acknowledged(history: &[Entry], id: u64) -> Option<u64> {
+    for entry in history {
+        if let Reply::Rope(rope, length) = &entry.reply {
+            if rope.number() == id {
+                return Some(u64::from(*length));
+            }
+        }
+    }
+    None
+}
+
+// Whether a disk holds just the ropes that a history acknowledged, or besides one that was in doubt.
+fn agrees<R: Threads + Wait + Sync>(
+    rt: &R,
+    alloc: Global,
+    history: &[Entry],
+    disk: &MemDisk,
+) -> Result<bool, Fail> {
+    let found = ropes_on(rt, alloc, copy_of(alloc, disk)?)?;
+    let mut more = 0usize;
+    for (id, one) in (1..=7).zip(found) {
+        match (acknowledged(history, id), one) {
+            (Some(length), Found::Length(n)) if n == length => {}
+            (None, Found::Absent) => {}
+            (None, Found::Length(_)) if more == 0 => more = 1,
+            _ => return Ok(false),
+        }
+    }
+    Ok(more == 0 || is_in_doubt(history))
+}
+
+// The number of the last device call of the script without faults.
+fn last_call<R: Threads + Wait + Sync>(rt: &R, alloc: Global) -> Result<u64, Fail> {
+    let (ended, _) = run_script(rt, alloc, SCRIPT, full_disk(alloc, &[])?)?;
+    Ok(ended.history.last().map_or(0, |entry| entry.ack))
+}
+
+#[test]
+fn one_fault_is_told_at_most_once(rt: HostRuntime) -> Result<(), Fail> {
+    let last = last_call(&rt, rt.alloc())?;
+    assert!(rt; last > FILLED + 30);
+    for call in FILLED + 1..=last {
+        let disk = full_disk(rt.alloc(), &[call])?;
+        let (ended, _) = run_script(&rt, rt.alloc(), SCRIPT, disk)?;
+        let faults = faults_in(&ended.history);
+        let told = ended.status == Status::DiskFault && ended.history.is_empty();
+        assert!(rt;
+            told || ended.status == Status::Done && faults == 1,
+            "call {call}"
+        );
+        assert!(rt;
+            agrees(&rt, rt.alloc(), &ended.history, &ended.disk)?,
+            "call {call}"
+        );
+    }
+    Ok(())
+}
+
+#[test]
+fn a_disk_that_stops_keeps_what_was_acknowledged(rt: HostRuntime) -> Result<(), Fail> {
+    let last = last_call(&rt, rt.alloc())?;
+    for calls in 0..=last - FILLED.min(last) {
+        let disk = FuseDisk::new(full_disk(rt.alloc(), &[])?, calls);
+        let (ended, _) = run_script(&rt, rt.alloc(), SCRIPT, disk)?;
+        let told = ended.status == Status::DiskFault && ended.history.is_empty();
+        assert!(rt; told || ended.status == Status::Done, "after {calls} calls");
+        let inner = ended.disk.into_inner();
+        assert!(rt;
+            agrees(&rt, rt.alloc(), &ended.history, &inner)?,
+            "after {calls} calls"
+        );
+    }
+    Ok(())
+}

@@ -1,0 +1,19 @@
+//! Tests of whole runs over disks in memory: what scripts print, damaged disks, faults, stops, and crashes at each moment.
+#![tactic(auto)]
+
+#[cfg(test)]
+mod crashes;
+#[cfg(test)]
+mod damage;
+#[cfg(test)]
+mod doubts;
+#[cfg(test)]
+mod faults;
+#[cfg(test)]
+mod runs;
+#[cfg(test)]
+mod scripts;
+#[cfg(test)]
+mod switches;
+#[cfg(test)]
+mod tables;
