@@ -5,6 +5,7 @@ pub mod BlocksUsed
 pub mod Addresses
 pub mod Recordings
 pub mod RowsGone
+pub mod RopesLeft
 pub mod Sweeping
 pub mod Freed
 pub mod PlacesFreed

@@ -6,18 +6,16 @@ use Rattle.voice_units.specs.declared.shapes.Graces.{Graces}
 use Rattle.voice_units.specs.Spots.{Spot, pieces_of, nowhere}
 use Rattle.voice_units.specs.Blocks.{BlockPair, has_pair, pairs_at}
 use Rattle.voice_units.proofs.PiecesOfRopes.{spots_of-runs}
-use Rattle.voice_model.specs.State.{Live, rope_at, is_live, row_at, has_row, settled}
+use Rattle.voice_model.specs.State.{Live, rope_at, is_live, has_row, settled, among}
 use Rattle.voice_model.specs.Changes.{wait_of}
-use Rattle.voice_model.specs.Valid.{Every, Rising, Once}
+use Rattle.voice_model.specs.Valid.{Every, Rising}
 use Rattle.voice_model.specs.declared.calls.Row.{Row}
-use Rattle.voice_model.specs.declared.calls.Class.{Class}
 use Rattle.interest_table.specs.Table.{rows_of}
-use Rattle.interest_table.proofs.Found.{others, rows_of-others}
 use Rattle.voice_model.proofs.KeptByChanges.{same_bool, every-imply}
 use Rattle.voice_model.proofs.PlacesKept.{has_pair-append, all_samples}
 use Rattle.rope_table.specs.declared.ropes.Rope.{Rope}
-use Rattle.rope_table.specs.Table.{rope_of, with_rope, uses_in, pieces_in, held_back, idled}
-use Rattle.recovery.specs.Shown.{shown_rope}
+use Rattle.rope_table.specs.Table.{rope_of, with_rope, uses_in, pieces_in, held_back}
+use Rattle.recovery.specs.Shown.{shown_rope, RowsGone, left_idle}
 
 pub not_equal : (a b : ℕ) → ¬ (a ≡ b) → (a == b) ≡ false
 not_equal a b h = test (a == b) refl
@@ -110,14 +108,6 @@ shown_as graces kept rope = record { id = rope.id; pieces = pieces_of rope.sampl
 pub cons_same : {A : Type 0} {x y : A} {xs ys : List A} → x ≡ y → xs ≡ ys → x ∷ xs ≡ y ∷ ys
 cons_same e h = cc
 
-pub map_map : {A B C D : Type 0} (f : A → B) (g : B → C) (h : A → D) (k : D → C) → ((x : A) → g (f x) ≡ k (h x)) → (xs : List A) → map g (map f xs) ≡ map k (map h xs)
-map_map f g h k same [] = refl
-map_map f g h k same (x ∷ xs) = let first = same x in let rest = map_map f g h k same xs in cc
-
-pub map_same : {A B : Type 0} (f g : A → B) → ((x : A) → f x ≡ g x) → (xs : List A) → map f xs ≡ map g xs
-map_same f g same [] = refl
-map_same f g same (x ∷ xs) = let first = same x in let rest = map_same f g same xs in cc
-
 pub held_shown : (g : Graces) (rows : List Row) (row : Row) (ropes : List (Live Spot)) → map (held_back row.rope true) (map (shown_rope g rows) ropes) ≡ map (shown_rope g (rows ++ row ∷ [])) ropes
 held_shown g rows row [] = refl
 held_shown g rows row (rope ∷ ropes) = cons_same (one (rope.id == row.rope) refl) (held_shown g rows row ropes)
@@ -159,13 +149,12 @@ pub unsettled : (g : Graces) (form now class : ℕ) (before after : List Row) �
 unsettled g form now class before after same [] = refl
 unsettled g form now class before after same (rope ∷ ropes) = cons_same (stays_shown g form now class before after rope (same rope.id)) (unsettled g form now class before after same ropes)
 
--- one rope loses its last row
-pub one_settled : (g : Graces) (form now class id last wait : ℕ) (before after : List Row) → ((other : ℕ) → ¬ (other ≡ id) → has_row after other ≡ has_row before other) → has_row before id ≡ true → has_row after id ≡ false → wait ≡ wait_of g last
-    → (ropes : List (Live Spot)) → Every (λ rope. cond (form == 2) class rope.last ≡ last) ropes
-    → map (held_back id false) (map (idled id now last wait) (map (shown_rope g before) ropes)) ≡ map (shown_rope g after) (map (settled form now class before after) ropes)
-one_settled g form now class id last wait before after same had has waits [] lasts = refl
-one_settled g form now class id last wait before after same had has waits (rope ∷ ropes) lasts =
-    cons_same (here (rope.id == id) refl) (one_settled g form now class id last wait before after same had has waits ropes lasts.1)
+-- ropes that lose their last row
+pub all_settled : (g : Graces) (form now class : ℕ) (before after : List Row) (ids : List ℕ) → RowsGone ids before after → (ropes : List (Live Spot)) → Every (λ rope. cond (form == 2) class rope.last ≡ cond (form == 2) class 0) ropes
+    → map (left_idle form g now class after ids) (map (shown_rope g before) ropes) ≡ map (shown_rope g after) (map (settled form now class before after) ropes)
+all_settled g form now class before after ids gone [] lasts = refl
+all_settled g form now class before after ids gone (rope ∷ ropes) lasts =
+    cons_same (here (among ids rope.id) (has_row after rope.id) refl refl) (all_settled g form now class before after ids gone ropes lasts.1)
   where
     moved : Live Spot
     moved = record rope { idle = now; last = cond (form == 2) class rope.last }
@@ -173,24 +162,22 @@ one_settled g form now class id last wait before after same had has waits (rope 
     shown : Rope
     shown = shown_rope g before rope
 
-    idle : Rope
-    idle = record shown { idle = now; last = last; wait = wait }
+    idle : ℕ → Rope
+    idle last = record shown { idle = now; last = last; wait = wait_of g last; kept = false }
 
-    is_idled : (b : Bool) → (rope.id == id) ≡ b → idled id now last wait (shown_rope g before rope) ≡ cond b idle shown
-    is_idled b e = ap (λ b. cond b idle shown) e
+    had : (b c : Bool) → among ids rope.id ≡ b → has_row after rope.id ≡ c → has_row before rope.id ≡ (b || c)
+    had b c e f = gone rope.id ∙ ap (λ b. b || has_row after rope.id) e ∙ ap (λ c. b || c) f
 
-    here : (b : Bool) → (rope.id == id) ≡ b → held_back id false (idled id now last wait (shown_rope g before rope)) ≡ shown_rope g after (settled form now class before after rope)
-    here true e =
-        let was : has_row before rope.id ≡ true = ap (has_row before) (eqb-true rope.id id e) ∙ had in
-        let is : has_row after rope.id ≡ false = ap (has_row after) (eqb-true rope.id id e) ∙ has in
-        ap (held_back id false) (is_idled true e) ∙ ap (λ b. cond b (record idle { kept = false }) idle) e
-        ∙ ap (λ w. let x : Rope = record shown { idle = now; last = last; wait = w; kept = false } in x) waits
-        ∙ ap (λ (n : ℕ). shown_as g false (record rope { idle = now; last = n })) (sym lasts.0)
-        ∙ ap (λ k. shown_as g k moved) (sym is)
-        ∙ ap (shown_rope g after) (sym (settled_by form now class before after rope true false was is))
-    here false e =
-        ap (held_back id false) (is_idled false e) ∙ ap (λ b. cond b (record shown { kept = false }) shown) e
-        ∙ stays_shown g form now class before after rope (same rope.id (λ k. let bad : true ≡ false = sym (eq-eqb rope.id id k) ∙ e in cc))
+    by_both : (b c : Bool) → among ids rope.id ≡ b → has_row after rope.id ≡ c → left_idle form g now class after ids shown ≡ cond (b && not c) (idle (cond (form == 2) class 0)) shown
+    by_both b c e f = ap (λ b. cond (b && not (has_row after rope.id)) (idle (cond (form == 2) class 0)) shown) e ∙ ap (λ c. cond (b && not c) (idle (cond (form == 2) class 0)) shown) f
+
+    here : (b c : Bool) → among ids rope.id ≡ b → has_row after rope.id ≡ c → left_idle form g now class after ids shown ≡ shown_rope g after (settled form now class before after rope)
+    here true false e f =
+        by_both true false e f ∙ ap idle (sym lasts.0) ∙ ap (λ k. shown_as g k moved) (sym f)
+        ∙ ap (shown_rope g after) (sym (settled_by form now class before after rope true false (had true false e f) f))
+    here true true e f = by_both true true e f ∙ stays_shown g form now class before after rope (f ∙ sym (had true true e f))
+    here false true e f = by_both false true e f ∙ stays_shown g form now class before after rope (f ∙ sym (had false true e f))
+    here false false e f = by_both false false e f ∙ stays_shown g form now class before after rope (f ∙ sym (had false false e f))
 
 -- the number of the class in form 2, none in form 1
 pub last_for : (form class last : ℕ) (ropes : List (Live Spot)) → ((form == 2) ≡ false → Every (λ rope. rope.last ≡ 0) ropes) → last ≡ cond (form == 2) class 0 → Every (λ rope. cond (form == 2) class rope.last ≡ last) ropes
@@ -204,40 +191,7 @@ last_for form class last ropes plain is = by_form (form == 2) plain is
     by_form true plain e = wide ropes e
     by_form false plain e = every-imply (λ (rope : Live Spot). rope.last ≡ 0) (λ (rope : Live Spot). rope.last ≡ last) (λ rope h. h ∙ sym e) ropes (plain refl)
 
--- rows that go in two steps
-pub settled_twice : (form now class : ℕ) (rows less least : List Row) → ((id : ℕ) → has_row least id ≡ true → has_row less id ≡ true) → ((id : ℕ) → has_row less id ≡ true → has_row rows id ≡ true) → (ropes : List (Live Spot))
-    → map (settled form now class less least) (map (settled form now class rows less) ropes) ≡ map (settled form now class rows least) ropes
-settled_twice form now class rows less least below above [] = refl
-settled_twice form now class rows less least below above (rope ∷ ropes) =
-    cons_same (one (has_row rows rope.id) (has_row less rope.id) (has_row least rope.id) refl refl refl) (settled_twice form now class rows less least below above ropes)
-  where
-    moved : Live Spot
-    moved = record rope { idle = now; last = cond (form == 2) class rope.last }
-
-    one : (a b c : Bool) → has_row rows rope.id ≡ a → has_row less rope.id ≡ b → has_row least rope.id ≡ c → settled form now class less least (settled form now class rows less rope) ≡ settled form now class rows least rope
-    one true true true e f k = ap (settled form now class less least) (settled_by form now class rows less rope true true e f) ∙ settled_by form now class less least rope true true f k ∙ sym (settled_by form now class rows least rope true true e k)
-    one true true false e f k = ap (settled form now class less least) (settled_by form now class rows less rope true true e f) ∙ settled_by form now class less least rope true false f k ∙ sym (settled_by form now class rows least rope true false e k)
-    one true false false e f k = ap (settled form now class less least) (settled_by form now class rows less rope true false e f) ∙ settled_by form now class less least moved false false f k ∙ sym (settled_by form now class rows least rope true false e k)
-    one false false false e f k = ap (settled form now class less least) (settled_by form now class rows less rope false false e f) ∙ settled_by form now class less least rope false false f k ∙ sym (settled_by form now class rows least rope false false e k)
-    one a false true e f k = let bad : true ≡ false = sym (below rope.id k) ∙ f in cc
-    one false true c e f k = let bad : true ≡ false = sym (above rope.id f) ∙ e in cc
-
 -- how many rows a rope has, and whether it has one
 pub some_rows : (rows : List Row) (id : ℕ) → nat_lt 0 (rows_of id rows) ≡ has_row rows id
 some_rows [] id = refl
 some_rows (row ∷ rows) id = more_uses (row.rope == id) (has_row rows id) (rows_of id rows) (some_rows rows id)
-
--- the row of a class and a key goes
-module _ (class : Class) (key : List ℕ) (row : Row) (rows : List Row) (there : row_at rows class key ≡ Some row) (once : Once rows) where
-  pub same_rows : (other : ℕ) → ¬ (other ≡ row.rope) → has_row (others class key rows) other ≡ has_row rows other
-  same_rows other apart =
-      let count = rows_of-others class key other row rows there once in
-      sym (some_rows (others class key rows) other) ∙ ap (nat_lt 0) (sym (count ∙ ap (λ b. cond b 1 0 + rows_of other (others class key rows)) (not_equal row.rope other (λ e. apart (sym e))) ∙ (let none : 0 + rows_of other (others class key rows) ≡ rows_of other (others class key rows) = omega arith in none))) ∙ some_rows rows other
-
-  pub had_row : has_row rows row.rope ≡ true
-  had_row =
-      let count = rows_of-others class key row.rope row rows there once in
-      sym (some_rows rows row.rope) ∙ ap (nat_lt 0) (count ∙ ap (λ b. cond b 1 0 + rows_of row.rope (others class key rows)) (eq-eqb row.rope row.rope refl)) ∙ some (rows_of row.rope (others class key rows))
-    where
-      some : (n : ℕ) → nat_lt 0 (1 + n) ≡ true
-      some n = grind arith

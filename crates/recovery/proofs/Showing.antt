@@ -1,25 +1,24 @@
 -- What the tables show after a step of a change.
-use Rattle.std.proofs.Common.{◌≡◌, ℕ, suc, ◌+◌, ◌≤◌, ◌<◌, ◌==◌, Bool, true, false, cond, nat_lt, List, [], ◌∷◌, ◌++◌, map, length, Option, Some, None, refl, sym, ◌∙◌, ap, arith}
+use Rattle.std.proofs.Common.{◌≡◌, ℕ, suc, ◌+◌, ◌≤◌, ◌<◌, ◌==◌, true, false, cond, nat_lt, List, [], ◌∷◌, ◌++◌, map, length, Option, None, refl, sym, ◌∙◌, ap, arith}
 use Rattle.std.specs.Prelude.{is_some, option_map}
 use Rattle.voice_units.specs.Blocks.{BlockPair, has_pair, pairs_at}
 use Rattle.voice_model.specs.Replay.{used_pairs}
 use Rattle.voice_model.proofs.PlacesKept.{all_samples}
-use Rattle.std.proofs.lemmas.Bool.{eqb-true, eq-eqb}
 use Rattle.voice_units.specs.declared.pieces.Piece.{Piece}
+use Rattle.voice_units.specs.declared.shapes.Graces.{Graces}
 use Rattle.voice_units.specs.Spots.{Spot, pieces_of}
 use Rattle.voice_model.specs.State.{Durable, Live, rope_at, is_live, row_at, has_row, with_rows, class_number}
-use Rattle.voice_model.specs.Changes.{wait_of, with_rope, changed}
+use Rattle.voice_model.specs.Changes.{with_rope, changed}
 use Rattle.voice_model.specs.State.Effect.{Retained, Forgotten}
-use Rattle.voice_model.specs.Valid.{Once}
 use Rattle.voice_model.specs.declared.calls.Row.{Row}
 use Rattle.voice_model.specs.declared.calls.Class.{Class}
 use Rattle.interest_table.specs.Table.{rows_of}
 use Rattle.rope_table.specs.declared.ropes.Rope.{Rope}
 use Rattle.interest_table.proofs.Found.{others, all_stay}
 use Rattle.rope_table.specs.Table as table
-use Rattle.rope_table.specs.Table.{Table, Counts, rope_of, made_rope, held_back, idled, uses_at, uses_in, pieces_in}
-use Rattle.recovery.specs.Shown.{shown_rope, ShowsKept, RowGone, IsOrderly}
-use Rattle.recovery.proofs.Ropes.{shown_as, rope_of-shown, some_mapped, put_last, not_live, no_row_of, held_shown, unsettled, one_settled, last_for, same_rows, had_row, some_rows, uses_shown}
+use Rattle.rope_table.specs.Table.{Table, Counts, rope_of, made_rope, held_back, uses_at, uses_in, pieces_in}
+use Rattle.recovery.specs.Shown.{shown_rope, ShowsKept, RowsGone, IsOrderly, left_idle}
+use Rattle.recovery.proofs.Ropes.{shown_as, rope_of-shown, some_mapped, put_last, not_live, no_row_of, held_shown, unsettled, all_settled, last_for, some_rows, uses_shown}
 
 -- a rope comes last
 pub rope_shown : (held : List (List Piece)) (form : ℕ) (d : Durable Spot) (old new : Table) (rows : List Row) (moment next id : ℕ) (samples : List Spot) (wait : ℕ)
@@ -57,36 +56,18 @@ row_shown held form d old new before after moment next row h ropes block uses ro
   next = h.next;
 }
 
--- a row went whose rope has another one
-pub still_shown : (held : List (List Piece)) (form class id : ℕ) (d : Durable Spot) (old : Table) (after : List Row) (moment next : ℕ)
-    → ShowsKept held old d.rows moment next d → RowGone id d.rows after → has_row after id ≡ true → ShowsKept held old after moment next (with_rows form class d after)
-still_shown held form class id d old after moment next h gone has = record {
-  block = h.block;
-  ropes = h.ropes ∙ unsettled d.shape.graces form d.moment class d.rows after same d.ropes;
-  uses = h.uses;
-  rows = refl;
-  moment = h.moment;
-  next = h.next;
-}
-  where
-    either : (other : ℕ) (b : Bool) → (other == id) ≡ b → has_row after other ≡ has_row d.rows other
-    either other true e = let is : other ≡ id = eqb-true other id e in ap (has_row after) is ∙ has ∙ sym gone.had ∙ ap (has_row d.rows) (sym is)
-    either other false e = gone.others other (λ k. let bad : true ≡ false = sym (eq-eqb other id k) ∙ e in cc)
-
-    same : (other : ℕ) → has_row after other ≡ has_row d.rows other
-    same other = either other (other == id) refl
-
--- a row went that was its rope's last one
-pub idle_shown : (held : List (List Piece)) (form class id last wait : ℕ) (d : Durable Spot) (old new : Table) (after : List Row) (moment next : ℕ)
-    → ShowsKept held old d.rows moment next d → RowGone id d.rows after → IsOrderly form d → has_row after id ≡ false → last ≡ cond (form == 2) class 0 → wait ≡ wait_of d.shape.graces last
-    → new.ropes ≡ map (held_back id false) (map (idled id moment last wait) old.ropes) → new.block ≡ old.block → Counts new held
+-- rows went, and each of their ropes that has none any more is idle since now
+pub rows_shown : (held : List (List Piece)) (form class : ℕ) (ids : List ℕ) (graces : Graces) (d : Durable Spot) (old new : Table) (after : List Row) (moment next : ℕ)
+    → ShowsKept held old d.rows moment next d → RowsGone ids d.rows after → IsOrderly form d → d.shape.graces ≡ graces
+    → new.ropes ≡ map (left_idle form graces moment class after ids) old.ropes → new.block ≡ old.block → Counts new held
     → ShowsKept held new after moment next (with_rows form class d after)
-idle_shown held form class id last wait d old new after moment next h gone orderly has is waits ropes block uses = record {
+rows_shown held form class ids graces d old new after moment next h gone orderly same ropes block uses = record {
   block = block ∙ h.block;
   ropes =
-      ropes ∙ ap (λ m. map (held_back id false) (map (idled id m last wait) old.ropes)) h.moment
-      ∙ ap (λ l. map (held_back id false) (map (idled id d.moment last wait) l)) h.ropes
-      ∙ one_settled d.shape.graces form d.moment class id last wait d.rows after gone.others gone.had has waits d.ropes (last_for form class last d.ropes orderly.lasts is);
+      ropes ∙ ap (λ m. map (left_idle form graces m class after ids) old.ropes) h.moment
+      ∙ ap (λ g. map (left_idle form g d.moment class after ids) old.ropes) (sym same)
+      ∙ ap (map (left_idle form d.shape.graces d.moment class after ids)) h.ropes
+      ∙ all_settled d.shape.graces form d.moment class d.rows after ids gone d.ropes (last_for form class (cond (form == 2) class 0) d.ropes orderly.lasts refl);
   uses = uses;
   rows = refl;
   moment = h.moment;
@@ -106,10 +87,6 @@ none_gone held form d old before after moment next class key h none is =
       moment = h.moment;
       next = h.next;
     }
-
--- the row of a class and key goes
-pub that_gone : (class : Class) (key : List ℕ) (row : Row) (rows : List Row) → row_at rows class key ≡ Some row → Once rows → RowGone row.rope rows (others class key rows)
-that_gone class key row rows there once = record { had = had_row class key row rows there once; others = same_rows class key row rows there once }
 
 -- a rope is live where the table has it
 pub live_shown : (held : List (List Piece)) (d : Durable Spot) (old : Table) (rows : List Row) (moment next id : ℕ) (o : Option ℕ)

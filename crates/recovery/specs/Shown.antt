@@ -2,7 +2,8 @@
 --     shown_rope graces rows rope      a live rope as the table of ropes keeps it
 --     ShowsKept held table interests now number d      the tables of ropes and of interests, the moment and the next number show a durable part, while these passages are held
 --     Shows held parts d      the same of parts
---     RowGone id before after      a row of the rope of this number went, and no other
+--     RowsGone ids before after      rows of the ropes of these numbers went, and no others
+--     left_idle form graces now class rows ids rope      a rope of these numbers that has no row is idle since now
 --     rows_without class keys rows      the rows without those of a class with these keys
 --     IsOrderly form d      live numbers rise and lie below the next one, rows name live ropes, no class and key stands twice, and in form 1 no class of a lost row is kept
 --     placed_at places a      who holds an address, by the places of blocks
@@ -12,13 +13,13 @@
 --     IsParts shape parts      the parts are as replay by this shape leaves them
 --     IsApplied shape old new change result      a change was tried on parts, and done where it is legal
 --     numbered k payloads      payloads as records that stand at their own numbers, from k on
-use Rattle.std.specs.Prelude.{◌≡◌, ℕ, ◌+◌, true, false, not, ◌&&◌, filter, bytes_eq, cond, ◌==◌, List, [], ◌∷◌, map, length, Bool, Option, Some, None, Result, Ok, IfOk}
+use Rattle.std.specs.Prelude.{◌≡◌, ℕ, ◌+◌, true, false, not, ◌&&◌, ◌||◌, filter, bytes_eq, cond, ◌==◌, List, [], ◌∷◌, map, length, Bool, Option, Some, None, Result, Ok, IfOk}
 use Rattle.voice_units.specs.declared.shapes.Shape.{Shape}
 use Rattle.voice_units.specs.declared.shapes.Graces.{Graces}
 use Rattle.voice_units.specs.Spots.{Spot, pieces_of}
 use Rattle.voice_units.specs.declared.pieces.Piece.{Piece}
 use Rattle.voice_model.specs.Samples.{Tagged}
-use Rattle.voice_model.specs.State.{Durable, Live, has_row, is_live, class_number}
+use Rattle.voice_model.specs.State.{Durable, Live, has_row, is_live, class_number, among}
 use Rattle.voice_model.specs.Changes.{wait_of}
 use Rattle.voice_model.specs.Image.{Record}
 use Rattle.voice_model.specs.Replay.{Placed, Rebuilt, is_legal, acted}
@@ -60,10 +61,15 @@ pub record ShowsKept (held : List (List Piece)) (table : Table) (interests : Lis
 abbrev pub Shows : List (List Piece) → Parts → Durable Spot → Type 0
 Shows held parts d = ShowsKept held parts.ropes parts.interests.rows parts.moment parts.next d
 
--- a row of the rope of this number went, and no other
-pub record RowGone (id : ℕ) (before after : List Row) : Type 0 where
-  pub had : has_row before id ≡ true
-  pub others : (other : ℕ) → ¬ (other ≡ id) → has_row after other ≡ has_row before other
+-- rows of the ropes of these numbers went, at least one of each, and no others
+abbrev pub RowsGone : List ℕ → List Row → List Row → Type 0
+RowsGone ids before after = (id : ℕ) → has_row before id ≡ (among ids id || has_row after id)
+
+-- a rope of these numbers that has no row is idle since now, is not kept, and waits by this class in form 2, by none in form 1
+abbrev pub left_idle : ℕ → Graces → ℕ → ℕ → List Row → List ℕ → Rope → Rope
+left_idle form graces now class rows ids rope =
+    let last = cond (form == 2) class 0 in
+    cond (among ids rope.id && not (has_row rows rope.id)) (record rope { idle = now; last = last; wait = wait_of graces last; kept = false }) rope
 
 -- the rows without those of a class with these keys
 abbrev pub rows_without : Class → List (List ℕ) → List Row → List Row

@@ -4,28 +4,17 @@ ghost use Rattle.std.specs.Prelude.{◌≡◌, ◌≢◌, ℕ, ◌+◌, ◌<◌,
 ghost use Rattle.voice_units.specs.declared.Piece.{Piece};
 ghost use Rattle.voice_units.specs.Spots.{Spot, spots_of, pieces_of};
 ghost use Rattle.voice_units.specs.Blocks.{BlockPair, pairs_at, has_pair};
-ghost use Rattle.voice_model.specs.State.{Durable, class_number, is_live, row_at, with_rows};
+ghost use Rattle.voice_model.specs.State.{Durable, is_live, row_at};
 ghost use Rattle.voice_model.specs.State.Effect.{Recorded, Edited, Retained, Forgotten, Counted, Swept, Advanced};
 ghost use Rattle.voice_model.specs.Changes.{changed, with_rope, wait_of};
 ghost use Rattle.rope_table.specs.Table.{rope_of, new_pairs, uses_at};
-ghost use Rattle.recovery.specs.Shown.{Shows, ShowsKept, RowGone, IsOrderly};
+ghost use Rattle.recovery.specs.Shown.{Shows, IsOrderly};
 
 use crate::parts::Parts;
 use interest_table::{AddError, InterestTable};
 use rope_algebra::Pieces;
 use voice_model::{Class, Key, Row};
 use voice_units::{Graces, Moment, NoMemory, RopeId};
-
-/// The number of a class, 1 to 3.
-fn number_of(class: Class) -> u8
-    ensures { result ≡ class_number class }
-{
-    match class {
-        Class::Held => 1,
-        Class::Until => 2,
-        Class::Listed => 3,
-    }
-}
 
 /// How long a rope waits that lost a row of this class last, or none at 0.
 pub(crate) fn wait_after(graces: &Graces, last: u8) -> u32
@@ -85,22 +74,6 @@ impl Parts {
         }
         self.ropes.keep(row.rope, true);
         Ok(true)
-    }
-
-    // A rope that has no row any more is idle since now, and waits by the class of the last one.
-    fn settle(&mut self, graces: &Graces, rope: RopeId, class: Class)
-        ensures shows { (held : List (List Piece)) (d : Durable Spot) → ShowsKept held self.old.ropes d.rows self.old.moment self.old.next d → RowGone rope d.rows self.old.interests.rows → IsOrderly self.old.form d → d.shape.graces ≡ graces.now → Shows held self.new (with_rows self.old.form (class_number class) d self.old.interests.rows) }
-        ensures rows { self.new.interests ≡ self.old.interests }
-        ensures blocks { self.new.blocks ≡ self.old.blocks }
-        ensures form { self.new.form ≡ self.old.form }
-    {
-        if self.interests.count(rope) > 0 {
-            return;
-        }
-        let last = if self.form == 2 { number_of(class) } else { 0 };
-        let wait = wait_after(graces, last);
-        self.ropes.set_idle(rope, self.moment, last, wait);
-        self.ropes.keep(rope, false);
     }
 
     /// Takes out the row of a class and key; false exactly where there is none. A rope that loses its last row is idle since now.

@@ -11,6 +11,7 @@ mod kinds;
 mod parts;
 mod placing;
 mod replaying;
+mod settling;
 mod sweeps;
 
 pub use parts::Parts;

@@ -62,7 +62,7 @@ impl Parts {
             Change::Retained(class, key, id, note) => self.try_retained(*class, key, *id, note),
             Change::Forgotten(class, key) => Ok(self.try_forgotten(shape, *class, key)),
             Change::Census(keys) => self.try_census(alloc, shape, keys.items()),
-            Change::Swept(ids) => self.try_swept(shape, ids.items()),
+            Change::Swept(ids) => self.try_swept(alloc, shape, ids.items()),
             Change::Advanced(moment) => Ok(self.try_advanced(*moment)),
             _ => Ok(false),
         }

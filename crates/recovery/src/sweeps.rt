@@ -1,26 +1,26 @@
 //! What a sweep may remove.
 
-ghost use Rattle.std.specs.Prelude.{◌≡◌, ◌&&◌, true, not, is_some, IfOk};
+ghost use Rattle.std.specs.Prelude.{◌≡◌, ◌&&◌, true, not, filter, is_some, IfOk};
 ghost use Rattle.std.specs.List.{list_all};
 ghost use Rattle.voice_model.specs.State.{has_row};
+ghost use Rattle.voice_model.specs.Changes.{is_expired};
 ghost use Rattle.rope_table.specs.Table.{rope_of};
 ghost use Rattle.voice_model.specs.Spelling.{keeps_grammar};
-ghost use Rattle.recovery.specs.Shown.{rows_without, IsParts, IsApplied};
+ghost use Rattle.recovery.specs.Shown.{IsParts, IsApplied};
 
 use crate::parts::Parts;
 use interest_table::InterestTable;
 use rope_table::RopeTable;
-use voice_model::{Change, Class, Key};
-use voice_units::{NoMemory, RopeId, Shape};
+use std::alloc::Global;
+use voice_model::{Change, Class};
+use voice_units::{Moment, NoMemory, RopeId, Shape};
 
-/// The interests without the rows of class Until with these keys, as a table of their own. It copies all rows.
-fn without_until(interests: &InterestTable, keys: &[Key]) -> Result<InterestTable, NoMemory>
-    ensures { IfOk result (λ left. left.rows ≡ rows_without Class.Until keys.now interests.now.rows) }
+/// The interests without the rows that are expired, as a table of their own. It copies all rows.
+fn unexpired(interests: &InterestTable, now: Moment) -> Result<InterestTable, NoMemory>
+    ensures { IfOk result (λ left. left.rows ≡ filter (λ row. not (is_expired now row)) interests.now.rows) }
 {
     let mut left = interests.copy()?;
-    for key in keys {
-        let _row = left.remove(Class::Until, key);
-    }
+    left.drop_expired(now);
     Ok(left)
 }
 
@@ -41,17 +41,22 @@ fn are_bare(ropes: &RopeTable, interests: &InterestTable, ids: &[RopeId]) -> boo
 
 impl Parts {
     /// The rows that are expired go, and then these ropes, with the blocks that nothing uses any more.
-    pub(crate) fn try_swept(&mut self, shape: &Shape, ids: &[RopeId]) -> Result<bool, NoMemory>
+    pub(crate) fn try_swept(
+        &mut self,
+        alloc: Global,
+        shape: &Shape,
+        ids: &[RopeId],
+    ) -> Result<bool, NoMemory>
         requires grammar { keeps_grammar (Change.Swept ids.now) ≡ true }
         requires parts { IsParts shape.now self.old }
         ensures { IsApplied shape.now self.old self.new (Change.Swept ids.now) result }
     {
-        let expired = self.interests.obsolete_until(self.moment)?;
-        let left = without_until(&self.interests, expired.items())?;
+        let left = unexpired(&self.interests, self.moment)?;
         if !are_bare(&self.ropes, &left, ids) {
             return Ok(false);
         }
-        self.drop_rows(&shape.graces, Class::Until, expired.items());
+        let expired = self.interests.obsolete_until(self.moment)?;
+        self.drop_rows(alloc, &shape.graces, Class::Until, expired.items())?;
         self.remove_ropes(ids);
         Ok(true)
     }

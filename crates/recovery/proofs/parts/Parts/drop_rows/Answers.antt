@@ -1,41 +1,21 @@
-use Rattle.std.proofs.Common.{◌≡◌, ◌+◌, ◌≤◌, [], length, drop, not, sym, ◌∙◌, ap, subst, arith}
-use Rattle.std.proofs.Math.ListN.{drop_of_length-le}
-use Rattle.voice_model.specs.State.{is_row, with_rows, class_number}
-use Rattle.voice_model.specs.State.Effect.{Forgotten}
-use Rattle.voice_model.specs.Changes.{changed}
-use Rattle.voice_model.specs.declared.calls.Row.{Row}
-use Rattle.recovery.specs.Shown.{Shows, IsOrderly, rows_without}
-use Rattle.recovery.proofs.RowsGone.{keys_step, keys_none, orderly_less, drop_next}
+use Rattle.std.proofs.Common.{◌≡◌, ap, sym, subst, refl, ◌∙◌}
+use Rattle.voice_model.specs.State.{with_rows, class_number, among}
+use Rattle.voice_model.specs.Valid.{Once}
+use Rattle.recovery.specs.Shown.{Shows, ShowsKept, RowsGone, rows_without}
+use Rattle.recovery.proofs.RopesLeft.{named_gone, same_named}
 use Rattle.recovery.proofs.parts.Parts.drop_rows.Goals as goal
-
-pub loop-key-preserved : goal.loop-key-preserved
-loop-key-preserved c =
-    let old = c.args.self.now in
-    let keys = c.args.keys.now in
-    let k = c.loop-key.key-index in
-    let key = c.key-item.result in
-    let test = c.loop-key-test.true in
-    let step = c.loop-key.invariant in
-    record {
-      reached = λ held d h orderly g.
-          let w = step.reached held d h orderly g in
-          record {
-            now = changed old.form w.now (Forgotten c.args.class key);
-            shows =
-                subst (λ form. Shows held c.forget.new.self (changed form w.now (Forgotten c.args.class key))) step.form
-                (c.forget.ensures.shows held w.now w.shows (subst (λ form. IsOrderly form w.now) (sym step.form) w.is_orderly) w.same_graces);
-            is_orderly = orderly_less old.form (class_number c.args.class) w.now (λ (row : Row). not (is_row c.args.class key row)) w.is_orderly;
-            same_graces = w.same_graces;
-            rest = w.rest ∙ ap (λ l. with_rows old.form (class_number c.args.class) w.now (rows_without c.args.class l w.now.rows)) (drop_next keys k key (omega arith) c.key-item.is) ∙ keys_step old.form c.args.class w.now key (drop (k + 1) keys);
-          };
-      blocks = c.forget.ensures.blocks ∙ step.blocks;
-      form = c.forget.ensures.form ∙ step.form;
-    }
 
 pub returns-clause-shows : goal.returns-clause-shows
 returns-clause-shows c = λ held d h orderly g.
     let old = c.args.self.now in
-    let test = c.loop-key-test.false in
-    let w = c.loop-key.invariant.reached held d h orderly g in
-    let gone : drop c.loop-key.key-index c.args.keys.now ≡ [] = drop_of_length-le c.args.keys.now (let over : length c.args.keys.now ≤ c.loop-key.key-index = omega arith in over) in
-    subst (Shows held c.loop-key.self) (sym (w.rest ∙ ap (λ l. with_rows old.form (class_number c.args.class) w.now (rows_without c.args.class l w.now.rows)) gone ∙ keys_none old.form c.args.class w.now)) w.shows
+    let class = c.args.class in
+    let keys = c.args.keys.now in
+    let ropes = c.deref.result.now in
+    let left : c.remove_all.new.self.rows ≡ rows_without class keys d.rows =
+    c.remove_all.ensures.rows ∙ same_named class keys c.in_ok-named.named.keys c.in_ok-named.ensures old.interests.rows ∙ ap (rows_without class keys) h.rows in
+    let shown : ShowsKept held old.ropes d.rows old.moment old.next d = record { block = h.block; ropes = h.ropes; uses = h.uses; rows = refl; moment = h.moment; next = h.next } in
+    let gone : RowsGone ropes d.rows (rows_without class keys d.rows) =
+    subst (λ rows. RowsGone ropes rows (rows_without class keys rows)) h.rows
+    (named_gone class keys old.interests.rows ropes (λ id. ap (λ l. among l id) c.deref.ensures.value ∙ c.in_ok-ropes.ensures (subst Once (sym h.rows) orderly.once) id)) in
+    subst (λ rows. Shows held c.settle_all.new.self (with_rows old.form (class_number class) d rows)) left
+    (c.settle_all.ensures.shows held d shown (subst (RowsGone ropes d.rows) (sym left) gone) orderly g)

@@ -1,8 +1,10 @@
-use Rattle.std.proofs.Common.{◌≡◌, ◌∙◌, ap, sym, subst, refl, Some}
+use Rattle.std.proofs.Common.{◌≡◌, ◌∙◌, ap, sym, refl, map, [], ◌∷◌, Some}
 use Rattle.voice_model.specs.State.{row_at, with_rows, class_number}
 use Rattle.interest_table.proofs.Found.{others, all_stay}
-use Rattle.recovery.specs.Shown.{Shows, ShowsKept, RowGone}
-use Rattle.recovery.proofs.Showing.{none_gone, that_gone}
+use Rattle.recovery.specs.Shown.{ShowsKept, left_idle}
+use Rattle.recovery.proofs.PlacesFreed.{moved_shown}
+use Rattle.recovery.proofs.RopesLeft.{one_gone}
+use Rattle.recovery.proofs.Showing.{none_gone, rows_shown}
 use Rattle.recovery.proofs.parts.Parts.forget.Goals as goal
 
 pub returns-in_default-clause-shows : goal.returns-in_default-clause-shows
@@ -13,11 +15,18 @@ returns-in_default-clause-shows c = λ held d h orderly g.
 pub returns-clause-shows : goal.returns-clause-shows
 returns-clause-shows c = λ held d h orderly g.
     let old = c.args.self.now in
-    let rows : c.remove.new.self.rows ≡ others c.args.class c.args.key.now d.rows = c.remove.ensures.rows ∙ ap (others c.args.class c.args.key.now) h.rows in
+    let new = c.settle.new.self in
+    let class = class_number c.args.class in
+    let left = others c.args.class c.args.key.now d.rows in
+    let rows : c.remove.new.self.rows ≡ left = c.remove.ensures.rows ∙ ap (others c.args.class c.args.key.now) h.rows in
     let there : row_at d.rows c.args.class c.args.key.now ≡ Some c.in-Some.row = ap (λ l. row_at l c.args.class c.args.key.now) (sym h.rows) ∙ sym c.in-Some.ensures.value in
     let shown : ShowsKept held old.ropes d.rows old.moment old.next d = record { block = h.block; ropes = h.ropes; uses = h.uses; rows = refl; moment = h.moment; next = h.next } in
-    subst (λ l. Shows held c.settle.new.self (with_rows old.form (class_number c.args.class) d l)) rows
-    (c.settle.ensures.shows held d shown (subst (RowGone c.in-Some.row.rope d.rows) (sym rows) (that_gone c.args.class c.args.key.now c.in-Some.row d.rows there orderly.once)) orderly g)
+    moved_shown held new.ropes left new.interests.rows old.moment new.moment old.next new.next (with_rows old.form class d left)
+    (rows_shown held old.form class (c.in-Some.row.rope ∷ []) c.args.graces.now d old.ropes new.ropes left old.moment old.next shown
+    (one_gone c.args.class c.args.key.now c.in-Some.row d.rows there orderly.once) orderly g
+    (c.settle.ensures.ropes ∙ ap (λ l. map (left_idle old.form c.args.graces.now old.moment class l (c.in-Some.row.rope ∷ [])) old.ropes.ropes) rows)
+    c.settle.ensures.block (c.settle.ensures.counts held h.uses))
+    (ap (λ t. t.rows) c.settle.ensures.interests ∙ rows) c.settle.ensures.moment c.settle.ensures.next
 
 pub returns-in_default-clause-same : goal.returns-in_default-clause-same
 returns-in_default-clause-same c = λ held d h e. record {
