@@ -1,15 +1,18 @@
 -- What an image opens as, by what the journal reads of it and what its records rebuild.
 use Rattle.std.proofs.Common.{◌≡◌, ℕ, zero, suc, ◌+◌, ◌-◌, ◌≤◌, Bool, true, false, List, [], ◌∷◌, map, Option, Some, None, refl, sym, ◌∙◌, ap, arith}
 use Rattle.std.specs.Prelude.{slice_get}
-use Rattle.voice_model.specs.State.{opened}
+use Rattle.voice_units.specs.declared.shapes.Shape.{Shape}
+use Rattle.voice_model.specs.State.{opened, form_of}
+use Rattle.voice_model.specs.State as states
 use Rattle.voice_model.specs.Spelling.{change_in}
-use Rattle.voice_model.specs.Replay.{Rebuilt, nothing_rebuilt, is_legal, acted, recovered}
+use Rattle.voice_model.specs.Replay.{Rebuilt, nothing_rebuilt, finished, is_legal, acted, recovered}
 use Rattle.voice_model.specs.Image as model
 use Rattle.voice_model.specs.Image.{Replayed, Reading, replayed, by_change, if_allowed, by_replay, by_journal, reading, opened_from, recovered_from}
 use Rattle.voice_model.specs.declared.changes.Change.{Change}
 use Rattle.voice_model.proofs.OneReading.{opens_as, recovers_as}
 use Rattle.voice_journal.specs.Image as journal
-use Rattle.voice_journal.specs.Readings.{Reads}
+use Rattle.voice_journal.specs.Readings.{Reads, formatted}
+use Rattle.voice_journal.specs.Formatted.{IsFormatted}
 use Rattle.voice_journal.specs.Parsed.{placed}
 use Rattle.recovery.specs.Shown.{numbered}
 use Rattle.journal_readings.specs.Readings.{same_record, as_model, as_reading, payloads_of, Rebuild}
@@ -29,6 +32,15 @@ opens image r b reads e = opens_as image (as_model r) b (reading_as image r read
 
 pub recovers : (image : List ℕ) (r : journal.Journal) (b : Rebuilt) → Reads image r → Rebuild r b → recovered_from image ≡ Some (recovered image b)
 recovers image r b reads e = recovers_as image (as_model r) b (reading_as image r reads (Replayed.All b) e)
+
+-- no record rebuilds nothing
+pub opens_empty : (shape : Shape) (old image : List ℕ) → IsFormatted shape old image → opened_from image ≡ Some (states.formatted shape)
+opens_empty shape old image is =
+    opens image (formatted shape) (finished (nothing_rebuilt shape)) is.reads refl
+    ∙ ap (λ (left : ℕ). Some (opened (recovered image (finished (nothing_rebuilt shape))) left 1 (form_of shape.version))) (left_is shape.area)
+  where
+    left_is : (area : ℕ) → area - 1 - 16 ≡ area - 17
+    left_is area = omega arith
 
 -- ---- an image that is damaged
 

@@ -1,13 +1,16 @@
 -- The laws of this crate, as statements.
 --     ReadsAlike      the journal's reading of an image is the definition's
 --     Opens      an image that reads, and whose changes rebuild b, opens as the state that b gives, filled from it
+--     OpensEmpty      a disk that was just formatted opens as the empty state of its shape
 --     Damages      damage of the journal's reading, or a payload that is refused, is the definition's damage, at its place
 --     RebuildsValid      what a journal's records rebuild keeps what replay keeps
 --     RebuildsOnce      they rebuild one thing
 --     RebuildsMore      one payload more that spells a legal change
 --     RebuildsBase      the base of what is rebuilt, in the other area, rebuilds the same
 use Rattle.std.specs.Prelude.{◌≡◌, ℕ, ◌-◌, ◌≤◌, true, List, map, slice_get, Some, is_some}
+use Rattle.voice_units.specs.declared.shapes.Shape.{Shape}
 use Rattle.voice_model.specs.State.{opened}
+use Rattle.voice_model.specs.State as states
 use Rattle.voice_model.specs.Spelling.{spelling, change_in}
 use Rattle.voice_model.specs.Replay.{Rebuilt, nothing_rebuilt, is_legal, acted, finished, brings, recovered}
 use Rattle.voice_model.specs.Image as model
@@ -18,6 +21,7 @@ use Rattle.voice_model.specs.Valid.{IsState, IsRebuilt}
 use Rattle.voice_model.specs.declared.changes.Change.{Change}
 use Rattle.voice_journal.specs.Image as journal
 use Rattle.voice_journal.specs.Readings.{Reads, with_payload, switched}
+use Rattle.voice_journal.specs.Formatted.{IsFormatted}
 use Rattle.voice_journal.specs.Parsed.{placed}
 use Rattle.recovery.specs.Shown.{plain_sample, numbered}
 use Rattle.journal_readings.specs.Readings.{as_reading, payloads_of, Rebuild}
@@ -30,6 +34,10 @@ pub record ReadsAlike : Type 0 where
 pub record Opens : Type 0 where
   pub opened : (image : List ℕ) (r : journal.Journal) (b : Rebuilt) → Reads image r → Rebuild r b → opened_from image ≡ Some (opened (recovered image b) (r.shape.area - 1 - r.gate) r.epoch b.form)
   pub recovers : (image : List ℕ) (r : journal.Journal) (b : Rebuilt) → Reads image r → Rebuild r b → recovered_from image ≡ Some (recovered image b)
+
+-- a disk that was just formatted opens as the empty state of its shape
+pub record OpensEmpty : Type 0 where
+  pub empty : (shape : Shape) (old image : List ℕ) → IsFormatted shape old image → opened_from image ≡ Some (states.formatted shape)
 
 -- damage of the journal's reading, or a payload that is refused, is the definition's damage, at its place
 pub record Damages : Type 0 where

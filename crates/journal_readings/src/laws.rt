@@ -1,6 +1,6 @@
 //! Laws of what a journal's readings mean, for the crates above. Each is the contract of a function, so that the check keeps it and a proof above may cite it.
 
-ghost use Rattle.journal_readings.specs.Laws.{ReadsAlike, Opens, Damages, RebuildsValid, RebuildsOnce, RebuildsMore, RebuildsBase};
+ghost use Rattle.journal_readings.specs.Laws.{ReadsAlike, Opens, OpensEmpty, Damages, RebuildsValid, RebuildsOnce, RebuildsMore, RebuildsBase};
 
 /// The journal reads an image as the definition does.
 pub fn reads_alike()
@@ -10,6 +10,11 @@ pub fn reads_alike()
 /// An image that reads opens as what its records rebuild, filled from it.
 pub fn opens()
     ensures { Opens }
+{}
+
+/// A disk that was just formatted opens as the empty state of its shape.
+pub fn opens_empty()
+    ensures { OpensEmpty }
 {}
 
 /// What the journal finds damaged, or replay refuses, is damage at that place.

@@ -10,3 +10,5 @@ pub mod Going
 pub mod Came
 pub mod Exact
 pub mod Pairing
+pub mod Walked
+pub mod Taken

@@ -1,6 +1,6 @@
 -- Words that give the options of a `format`.
 use Rattle.std.proofs.Common.{◌≡◌, ℕ, ◌+◌, ◌<◌, ◌≤◌, zero, suc, Bool, true, false, cond, List, [], ◌∷◌, length, get_or, drop, map, Option, Some, None, sym, refl, ap, subst, ◌∙◌, arith, lit<, length-drop}
-use Rattle.std.specs.Prelude.{is_some, codes}
+use Rattle.std.specs.Prelude.{is_some}
 use Rattle.std.specs.List.{find}
 use Rattle.std.specs.Str.{bytes_eq}
 use Rattle.std.proofs.lemmas.List.{drop_more}
@@ -10,9 +10,7 @@ use Rattle.script_lang.proofs.Digits.{number-again, number-found}
 use Rattle.voice_main.specs.declared.options.FormatOption.{FormatOption}
 use Rattle.voice_main.specs.declared.options.FormatOption.TheVariants as options
 use Rattle.voice_main.specs.declared.options.Given.{Given}
-use Rattle.voice_main.specs.Options.{option_text, option_named, all_options, none_given, numbers_of, value_given, with_value, IsPair, Gives}
-use Rattle.voice_main.specs.declared.options.FormatNumbers.{FormatNumbers}
-use Rattle.voice_main.specs.Words.{IsFormat}
+use Rattle.voice_main.specs.Options.{option_text, option_named, all_options, value_given, with_value, IsPair, Gives}
 
 abbrev most : ℕ
 most = 4294967295
@@ -131,16 +129,3 @@ item_now f xs i x bytes within is same = subst (λ b. b ≡ get_or (map f xs) i 
 pub in_front : {X : Type 0} (f : X → List ℕ) (xs : List X) (x : X) → 1 ≤ length xs → x ≡ get_or xs 0 x → map f xs ≡ f x ∷ map f (drop 1 xs)
 in_front f [] x some is = absurd (omega arith)
 in_front f (y ∷ ys) x some is = ap (λ z. f z ∷ map f ys) (sym is)
-
--- words give one thing
-pub one_given : (start a b : Given) (words : List (List ℕ)) → Gives start words a → Gives start words b → a ≡ b
-one_given start a b [] p q = sym p ∙ q
-one_given start a b (word ∷ []) p q = absurd p
-one_given start a b (word ∷ (value ∷ words)) p q = one_given (with_value p.0 p.1 start) a b words p.3 (forth start word value words p.0 p.1 b p.2 q)
-
--- and one line of numbers
-pub one_format : (words : List (List ℕ)) (a b : FormatNumbers) → IsFormat words a → IsFormat words b → a ≡ b
-one_format words a b p q =
-    let whole : codes "format" ∷ p.options ≡ codes "format" ∷ q.options = sym p.form ∙ q.form in
-    let same : p.options ≡ q.options = cc in
-    p.numbers_are ∙ ap numbers_of (one_given none_given p.given q.given q.options (subst (λ o. Gives none_given o p.given) same p.gives) q.gives) ∙ sym q.numbers_are

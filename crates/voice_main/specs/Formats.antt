@@ -3,14 +3,17 @@
 --     HasNumbers numbers shape      the shape has these numbers
 --     HasRoom numbers size      a disk of that size can have it
 --     Formats numbers bytes image      the image is the empty disk of that shape, made of these bytes
+--     IsLeft old new      the disk is as it was
 --     FormatStatus numbers old new status      when each status of a `format` comes
-use Rattle.std.specs.Prelude.{ℕ, List, ◌≡◌, ◌≤◌}
+use Rattle.std.specs.Prelude.{ℕ, List, Some, ◌≡◌, ◌≤◌}
 use Rattle.voice_units.specs.Layout.{IsShape, bytes_needed}
 use Rattle.voice_units.specs.declared.shapes.Shape.{Shape}
 use Rattle.voice_units.specs.declared.shapes.Graces.{Graces}
 use Rattle.voice_outside.specs.Counters.{HasRisen}
 use Rattle.voice_outside.specs.Disk.{Told}
 use Rattle.voice_journal.specs.Formatted.{IsFormatted}
+use Rattle.voice_model.specs.State as states
+use Rattle.voice_model.specs.Image.{opened_from}
 use Rattle.voice_main.specs.declared.options.FormatNumbers.{FormatNumbers}
 use Rattle.voice_main.specs.declared.status.Status.{Status}
 use Rattle.voice_main.specs.declared.status.Status.TheVariants.{Done, BadShape, DiskFault, NoMemory}
@@ -38,11 +41,19 @@ pub record Formats (numbers : FormatNumbers) (bytes image : List ℕ) : Type 0 w
   pub shape : Shape
   pub has : HasNumbers numbers shape
   pub formatted : IsFormatted shape bytes image
+  -- it opens as the empty state
+  pub empty : opened_from image ≡ Some (states.formatted shape)
 
--- when each status of a `format` comes
+-- the disk is as it was, and no call of it was made
+pub record IsLeft (old new : Told) : Type 0 where
+  pub bytes : new.bytes ≡ old.bytes
+  pub calls : new.calls ≡ old.calls
+  pub faults : new.faults ≡ old.faults
+
+-- when each status of a `format` comes; want of memory leaves the disk as it was
 abbrev pub FormatStatus : FormatNumbers → Told → Told → Status → Type 0
 FormatStatus numbers old new Done = HasRoom numbers old.size
 FormatStatus numbers old new BadShape = HasRoom numbers old.size → ⊥
 FormatStatus numbers old new DiskFault = HasRisen old.faults new.faults × HasRoom numbers old.size
-FormatStatus numbers old new NoMemory = Unit {0}
+FormatStatus numbers old new NoMemory = IsLeft old new
 FormatStatus numbers old new _ = ⊥

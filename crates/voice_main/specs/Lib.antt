@@ -5,3 +5,4 @@ pub mod Ordered
 pub mod Ran
 pub mod Formats
 pub mod Statuses
+pub mod Commands

@@ -1,6 +1,7 @@
 //! The top call of the voice manager: `run` does what the words of the command line say, over a shelf of files, a sink of text and a disk.
 #![tactic(auto)]
 
+mod assigned;
 mod format;
 mod load;
 mod numbers;

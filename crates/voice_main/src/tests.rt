@@ -1,5 +1,7 @@
 //! The rows of a first script, and each fault of the outside once.
 
+use crate::assigned::assigned;
+use crate::options::{FormatNumbers, format_numbers};
 use crate::{Status, run};
 use std::alloc::Global;
 use std::sync::Wait;
@@ -7,6 +9,14 @@ use std::test::Fail;
 use std::thread::Threads;
 use voice_outside::{MemShelf, MemSink, NoDisk, OpenGate};
 use voice_units::Name;
+
+fn strings(alloc: Global, words: &[&str]) -> Result<Vec<String>, Fail> {
+    let mut all = Vec::new(alloc);
+    for word in words {
+        all.push(String::from_str(alloc, word)?)?;
+    }
+    Ok(all)
+}
 
 // Runs the words over these files, and gives the status and what was printed. The listed calls of the shelf and the sink fail.
 fn shown<R: Threads + Wait + Sync>(
@@ -17,10 +27,7 @@ fn shown<R: Threads + Wait + Sync>(
     shelf_fails: &[u64],
     sink_fails: &[u64],
 ) -> Result<(Status, Vec<u8>), Fail> {
-    let mut all = Vec::new(alloc);
-    for word in words {
-        all.push(String::from_str(alloc, word)?)?;
-    }
+    let all = strings(alloc, words)?;
     let mut held = Vec::new(alloc);
     for (name, bytes) in files {
         let name = Name::new(name.as_bytes())?;
@@ -121,5 +128,92 @@ fn faults_are_told(rt: HostRuntime) -> Result<(), Fail> {
     let files = [("s", "1 record f20"), ("f20", "ABC")];
     let (ended, _) = shown(&rt, rt.alloc(), &["run", "s"], &files, &[2], &[])?;
     assert_eq!(rt; ended, Status::ShelfFault);
+    Ok(())
+}
+
+#[test]
+fn clap_assigns_the_numbers_of_the_words(rt: HostRuntime) -> Result<(), Fail> {
+    let most = 4_294_967_295;
+    // The words, and the numbers of block, blocks, area, grace and lanes.
+    let cases = [
+        (["format"].as_slice(), [4096, 15000, 1_048_576, 86_400, 8]),
+        (
+            ["format", "--block", "512"].as_slice(),
+            [512, 15000, 1_048_576, 86_400, 8],
+        ),
+        (
+            ["format", "--blocks", "7"].as_slice(),
+            [4096, 7, 1_048_576, 86_400, 8],
+        ),
+        (
+            ["format", "--area", "65536"].as_slice(),
+            [4096, 15000, 65_536, 86_400, 8],
+        ),
+        (
+            ["format", "--grace", "0"].as_slice(),
+            [4096, 15000, 1_048_576, 0, 8],
+        ),
+        (
+            ["format", "--lanes", "4294967295"].as_slice(),
+            [4096, 15000, 1_048_576, 86_400, most],
+        ),
+        (
+            ["format", "--lanes", "1", "--block", "4294967295"].as_slice(),
+            [most, 15000, 1_048_576, 86_400, 1],
+        ),
+        (
+            [
+                "format", "--block", "1", "--blocks", "2", "--area", "3", "--grace", "4",
+                "--lanes", "5",
+            ]
+            .as_slice(),
+            [1, 2, 3, 4, 5],
+        ),
+        (
+            [
+                "format", "--lanes", "5", "--grace", "4", "--area", "3", "--blocks", "2",
+                "--block", "1",
+            ]
+            .as_slice(),
+            [1, 2, 3, 4, 5],
+        ),
+        (
+            [
+                "format", "--area", "0", "--lanes", "0", "--blocks", "0", "--block", "0",
+                "--grace", "0",
+            ]
+            .as_slice(),
+            [0, 0, 0, 0, 0],
+        ),
+        (
+            [
+                "format",
+                "--grace",
+                "4294967295",
+                "--blocks",
+                "4294967295",
+                "--area",
+                "4294967295",
+                "--block",
+                "4294967295",
+                "--lanes",
+                "4294967295",
+            ]
+            .as_slice(),
+            [most, most, most, most, most],
+        ),
+    ];
+    for (words, [block, blocks, area, grace, lanes]) in cases {
+        let words = strings(rt.alloc(), words)?;
+        let wanted = Some(FormatNumbers {
+            block,
+            blocks,
+            area,
+            grace,
+            lanes,
+        });
+        assert_eq!(rt; format_numbers(&words), wanted);
+        assert_eq!(rt; assigned(rt.alloc(), &words), wanted);
+    }
     Ok(())
 }

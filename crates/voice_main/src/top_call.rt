@@ -14,6 +14,7 @@ ghost use Rattle.voice_main.specs.Formats.{Formats, FormatStatus};
 ghost use Rattle.voice_main.specs.Ran.{GoesOn, IsReady, Performed, SoFar};
 ghost use Rattle.voice_main.specs.Statuses.{Stops, Opens, Performs, RunComes, Comes, IsEarly, IsSilent, IsExact, IsComplete, load_status_of, open_status_of, script_status_of};
 
+use crate::assigned::assigned;
 use crate::format::format;
 use crate::load::{LoadError, file, files};
 use crate::options::format_numbers;
@@ -251,8 +252,16 @@ fn carry_out<K: Shelf, O: Sink, D: Disk, G: Gate>(
     ensures format { (numbers : NumbersValue) → IsFormat (map string_bytes words.now) numbers → FormatStatus numbers (D.told disk) (D.told result.disk) result.status }
     ensures formatted { (numbers : NumbersValue) → IsFormat (map string_bytes words.now) numbers → result.status ≡ Status.Done → IsTrue (D.told disk).honest → Now (D.told result.disk) (Formats numbers (D.told disk).bytes) }
 {
-    let Some(numbers) = format_numbers(words) else {
+    // The grammar decides which words are accepted, and clap assigns their numbers.
+    let Some(_accepted) = format_numbers(words) else {
         return run_script(alloc, words, shelf, out, disk, gate);
+    };
+    let Some(numbers) = assigned(alloc, words) else {
+        return Ended {
+            status: Status::NoMemory,
+            disk,
+            history: Vec::new(alloc),
+        };
     };
     let (status, disk) = format(disk, numbers);
     Ended {

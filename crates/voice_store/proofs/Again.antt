@@ -1,5 +1,5 @@
 -- The samples of an edit are samples of live ropes: so they are filled in as themselves, and lie in blocks of live ropes.
-use Rattle.std.proofs.Common.{◌≡◌, ℕ, zero, suc, ◌+◌, ◌==◌, Bool, true, false, ◌&&◌, ◌||◌, cond, List, [], ◌∷◌, ◌++◌, map, take, drop, flat_map, Option, Some, None, IsTrue, refl, ◌∙◌, ap, subst}
+use Rattle.std.proofs.Common.{◌≡◌, ℕ, ◌+◌, ◌==◌, Bool, true, false, ◌&&◌, ◌||◌, cond, List, [], ◌∷◌, ◌++◌, map, drop, Option, Some, IsTrue, refl, ◌∙◌, ap, subst}
 use Rattle.std.specs.List.{list_all}
 use Rattle.voice_units.specs.Spots.{Spot, slice, replaced}
 use Rattle.voice_units.specs.Blocks.{BlockPair, same_pair, has_pair}

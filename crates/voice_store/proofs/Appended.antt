@@ -1,14 +1,12 @@
 -- A change that was appended, by what the journal says of it.
-use Rattle.std.proofs.Common.{◌≡◌, ℕ, ◌+◌, ◌-◌, ◌≤◌, ◌<◌, List, [], ◌∷◌, ◌++◌, length, Bool, true, cond, Option, Some, None, IsTrue, refl, sym, ◌∙◌, ap, subst, arith}
+use Rattle.std.proofs.Common.{◌≡◌, ℕ, ◌+◌, ◌-◌, ◌≤◌, List, [], ◌∷◌, ◌++◌, length, Bool, true, cond, Some, None, IsTrue, refl, sym, ◌∙◌, ap, subst, arith}
 use Rattle.std.proofs.lemmas.Bool.{le-leb}
-use Rattle.std.specs.Prelude.{nat_le}
 use Rattle.voice_outside.specs.Disk.{Told}
-use Rattle.voice_units.specs.declared.shapes.Shape.{Shape}
 use Rattle.voice_journal.specs.Readings.{with_payload}
-use Rattle.voice_journal.specs.Places.{JournalValue, landed as landed_seat}
+use Rattle.voice_journal.specs.Places.{landed as landed_seat}
 use Rattle.voice_journal.specs.declared.seats.Doubt.TheVariants.{Record}
 use Rattle.voice_model.specs.Samples.{Tagged}
-use Rattle.voice_model.specs.State.{State, Durable, Effect, Pending}
+use Rattle.voice_model.specs.State.{State, Durable, Effect}
 use Rattle.voice_model.specs.State.Effect.{Recorded, Edited, Retained, Forgotten, Counted, Swept, Advanced}
 use Rattle.voice_model.specs.Changes.{committed, changed, frame_size, base_size, form_after_switch}
 use Rattle.voice_model.specs.Spelling.{change_in}
@@ -23,7 +21,7 @@ use Rattle.voice_model.proofs.ReadAgain.{spelled_is_read}
 use Rattle.next_ropes.specs.declared.NextRope.{NextRope}
 use Rattle.recovery.specs.Shown.{Rebuilds}
 use Rattle.recovery.specs.declared.parts.Parts.{Parts}
-use Rattle.crash_laws.specs.Standing.{IsLater, IsHeld}
+use Rattle.crash_laws.specs.Standing.{IsLater}
 use Rattle.crash_laws.specs.Calls.{Does, Undoes, Doubts, StaysWithin, IsChange, KeepsDurable, IsCommitted, IsInDoubt}
 use Rattle.crash_laws.specs.Laws.{AppendsCarry, FailuresCarry}
 use Rattle.crash_laws.proofs.Commits.{acted_form}
@@ -32,7 +30,7 @@ use Rattle.voice_store.specs.declared.inside.Doubted.{Doubted}
 use Rattle.voice_store.specs.Stood.{tapes_of, last_of, in_form, Fills, IsSeated, Stood}
 use Rattle.voice_store.specs.Ways.{FitsBehind}
 use Rattle.voice_store.specs.Trying.{Trying}
-use Rattle.voice_store.proofs.Tried.{said, done_reply, waiting, next_done, next_failed, next_waits, stood_done, stood_failed, stood_waits}
+use Rattle.voice_store.proofs.Tried.{said, done_reply, next_done, next_failed, next_waits, stood_done, stood_failed, stood_waits}
 
 pub changed_shape : (form : ℕ) (d : Durable Tagged) (e : Effect Tagged) → (changed form d e).shape ≡ d.shape
 changed_shape form d (Recorded id samples) = refl

@@ -1,24 +1,21 @@
 -- A history with one entry more.
-use Rattle.std.proofs.Common.{◌≡◌, ◌⊎◌, inl, inr, ℕ, ◌+◌, ◌≤◌, List, [], ◌∷◌, ◌++◌, IsTrue, refl, sym, ◌∙◌, ap, subst, arith}
+use Rattle.std.proofs.Common.{◌≡◌, ◌⊎◌, inl, inr, ℕ, ◌≤◌, List, [], ◌∷◌, ◌++◌, IsTrue, sym, ◌∙◌, ap, subst, arith}
 use Rattle.std.specs.Prelude.{Vec}
 use Rattle.std.specs.declared.alloc.Global.{Global}
 use Rattle.voice_outside.specs.Disk.{Told}
 use Rattle.voice_units.specs.Spots.{Spot}
 use Rattle.voice_model.specs.Samples.{Tagged}
-use Rattle.voice_model.specs.State.{State, LaneState}
+use Rattle.voice_model.specs.State.{State}
 use Rattle.voice_model.specs.Step.{Legal, IsAnswer, state_after, after}
 use Rattle.voice_model.specs.Replay.{Rebuilt}
 use Rattle.voice_model.specs.Valid.{IsState}
-use Rattle.voice_model.specs.declared.calls.Call.{Call}
-use Rattle.voice_model.specs.declared.calls.Reply.{Reply}
 use Rattle.voice_model.specs.declared.calls.Entry.{Entry}
 use Rattle.voice_model.proofs.Determined.{after-append, legal-append}
 use Rattle.crash_laws.specs.Standing.{IsHeld, IsHonest}
 use Rattle.crash_laws.specs.Calls.{KeepsDurable}
 use Rattle.crash_laws.specs.Laws.{EntriesCount}
 use Rattle.voice_store.specs.declared.inside.Inside.{Inside}
-use Rattle.voice_store.specs.Stood.{last_state, tapes_of, last_of, Fills, IsSeated, AcksRise, AreQuiet, Upright, IsSure, Lands, IsUnsure, Stood}
-use Rattle.voice_store.specs.Facts.{Stays, entry_of}
+use Rattle.voice_store.specs.Stood.{last_state, tapes_of, last_of, Fills, Brings, IsSeated, AcksRise, AreQuiet, Upright, IsSure, Lands, IsUnsure, Stood}
 
 pub after_one : (s : State) (tapes : List (List ℕ)) (es : List Entry) (e : Entry) → after s tapes (es ++ e ∷ []) ≡ state_after (after s tapes es) tapes e
 after_one s tapes es e = after-append s tapes es (e ∷ [])
@@ -111,5 +108,9 @@ module _ (first : State) (t0 : ℕ) (disk : Told) (s : Inside) (history : Vec En
         in_journal = unsure.in_journal;
         change = unsure.change;
         ready = unsure.ready;
+        addresses = unsure.addresses;
+        spelled = unsure.spelled;
+        later_fill = unsure.later_fill;
+        brings_it = subst (λ (t : State). Brings unsure.later_fill stood.b unsure.change t unsure.pending.effect) (sym last) unsure.brings_it;
         lands = subst (λ (t : State). Lands s.journal unsure.doubted stood.b stood.after t unsure.change unsure.doubt) (sym last) unsure.lands;
       })

@@ -1,12 +1,12 @@
 -- The entries of faults, and the faults that rose.
-use Rattle.std.proofs.Common.{◌≡◌, ◌⊎◌, inl, inr, ℕ, ◌+◌, ◌-◌, ◌^◌, ◌<◌, ◌≤◌, List, [], ◌∷◌, ◌++◌, Bool, true, false, cond, refl, sym, ◌∙◌, ap, subst, arith}
+use Rattle.std.proofs.Common.{◌≡◌, inl, inr, ℕ, ◌+◌, ◌≤◌, List, [], ◌∷◌, ◌++◌, Bool, true, false, cond, refl, sym, ◌∙◌, ap, subst, arith}
 use Rattle.std.proofs.lemmas.List.Sums.{sum_by-append}
 use Rattle.std.specs.Prelude.{count_by, IfOk, OnErr, Result, Ok, Err}
 use Rattle.voice_outside.specs.Counters.{HasRisen}
 use Rattle.voice_model.specs.declared.calls.Call.{Call}
 use Rattle.voice_model.specs.declared.calls.Reply.{Reply}
 use Rattle.voice_model.specs.declared.calls.Entry.{Entry}
-use Rattle.voice_store.specs.Stood.{is_fault, is_fault_of}
+use Rattle.voice_store.specs.Stood.{is_fault}
 use Rattle.voice_store.specs.Shown.{FaultsCover}
 use Rattle.voice_store.specs.Facts.{Adds, AddsLanding, IsFault, entry_of, landing_at}
 

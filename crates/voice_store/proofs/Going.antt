@@ -1,5 +1,5 @@
 -- A plan's bytes fit where they go.
-use Rattle.std.proofs.Common.{◌≡◌, ◌≢◌, ◌⊎◌, inl, inr, ℕ, ◌+◌, ◌-◌, ◌≤◌, ◌<◌, ◌^◌, ◌==◌, ◌||◌, Bool, true, false, cond, List, length, IsTrue, refl, sym, ◌∙◌, ap, subst, arith, eq-eqb}
+use Rattle.std.proofs.Common.{◌≡◌, ◌≢◌, ◌⊎◌, inl, inr, ℕ, ◌+◌, ◌-◌, ◌≤◌, ◌<◌, ◌^◌, ◌==◌, ◌||◌, Bool, true, false, cond, length, refl, sym, ◌∙◌, ap, subst, arith, eq-eqb}
 use Rattle.std.specs.Prelude.{nat_le}
 use Rattle.std.proofs.lemmas.Bool.{leb-true, eqb-true}
 use Rattle.voice_outside.specs.Disk.{Told}
@@ -7,10 +7,10 @@ use Rattle.voice_journal.specs.Readings.{framed_size}
 use Rattle.voice_model.specs.Samples.{Tagged}
 use Rattle.voice_model.specs.State.{State, Effect}
 use Rattle.voice_model.specs.Changes.{base_size, changed}
-use Rattle.voice_model.specs.Replay.{Rebuilt, acted, durable_by}
+use Rattle.voice_model.specs.Replay.{Rebuilt, acted}
 use Rattle.voice_model.specs.Base.{base_of}
 use Rattle.voice_model.specs.Base as changes
-use Rattle.voice_model.specs.Places.{IsPlaced, AllUsed}
+use Rattle.voice_model.specs.Places.{AllUsed}
 use Rattle.voice_model.specs.declared.calls.Call.{Call}
 use Rattle.voice_model.specs.declared.changes.Change.{Change}
 use Rattle.voice_model.proofs.PlacesKept.{placed_next}

@@ -1,36 +1,30 @@
 -- An edit that is kept.
-use Rattle.std.proofs.Common.{◌≡◌, ◌≢◌, ◌⊎◌, inl, inr, ℕ, ◌+◌, ◌-◌, ◌*◌, ◌≤◌, ◌<◌, ◌^◌, ◌==◌, ◌||◌, nat_le, Bool, true, false, cond, List, [], ◌∷◌, map, length, Option, Some, None, IsTrue, is_some, refl, sym, ◌∙◌, ap, subst, arith, eq-eqb}
+use Rattle.std.proofs.Common.{◌≡◌, ◌⊎◌, inl, inr, ℕ, ◌+◌, ◌*◌, ◌≤◌, ◌^◌, ◌==◌, true, false, cond, List, [], ◌∷◌, length, Some, None, IsTrue, is_some, refl, sym, ◌∙◌, ap, subst, arith}
 use Rattle.std.specs.List.{list_all}
 use Rattle.std.proofs.lemmas.List.{length-map}
-use Rattle.std.proofs.lemmas.Bool.{leb-true, ltb-true}
-use Rattle.std.specs.Prelude.{nat_lt}
+use Rattle.std.proofs.lemmas.Bool.{ltb-true}
 use Rattle.voice_units.specs.declared.pieces.Piece.{Piece}
 use Rattle.voice_units.specs.Spots.{Spot, spots_of, samples_in, pieces_of, nowhere}
 use Rattle.voice_units.specs.Blocks.{BlockPair, same_pair, has_pair, pairs_at}
 use Rattle.voice_units.proofs.PiecesOfRopes.{both, spots_of-runs}
 use Rattle.voice_units.proofs.Distinct.{same_pair-true}
 use Rattle.voice_outside.specs.Disk.{Told}
-use Rattle.voice_journal.specs.Readings.{framed_size, extent}
 use Rattle.voice_model.specs.Samples.{Tagged, spot_of, spots_in_rope, pieces_in}
 use Rattle.voice_model.specs.State.{State, Durable, Effect}
 use Rattle.voice_model.specs.State.Effect.{Edited}
-use Rattle.voice_model.specs.Changes.{effect_of, frame_size, base_size, changed, rope_size}
-use Rattle.voice_model.specs.Changes as sizes
+use Rattle.voice_model.specs.Changes.{frame_size, base_size, changed}
 use Rattle.voice_model.specs.Step.{refusal, reply_of, samples_made, is_journal_full, journal_full, if_full, when}
 use Rattle.voice_model.specs.Replay.{Rebuilt, acted, durable_by, effect_by, used_pairs, recovered}
 use Rattle.voice_model.specs.Base.{change_of}
-use Rattle.voice_model.specs.Base as changes
-use Rattle.voice_model.specs.Valid.{IsFit, MayFit, IsNextRope}
+use Rattle.voice_model.specs.Valid.{MayFit, IsNextRope}
 use Rattle.voice_model.specs.declared.calls.Call.{Call}
 use Rattle.voice_model.specs.declared.calls.Reply.TheVariants as replies
 use Rattle.voice_model.specs.declared.calls.Why.TheVariants as why
-use Rattle.voice_model.specs.declared.changes.Change.{Change}
 use Rattle.voice_model.specs.declared.changes.Change.TheVariants as kinds
 use Rattle.voice_model.specs.Spelling.{spelling}
 use Rattle.voice_model.proofs.ChangesOfEffects.{size_again}
 use Rattle.voice_model.proofs.FitsOfCalls.{fit_call}
 use Rattle.voice_model.proofs.LegalInReplay.{acted_again}
-use Rattle.voice_blocks.specs.Holders.{Holders}
 use Rattle.rope_table.specs.Table.{uses_at}
 use Rattle.recovery.specs.declared.parts.Parts.{Parts}
 use Rattle.recovery.specs.Shown.{Rebuilds}
@@ -53,8 +47,7 @@ use Rattle.voice_store.specs.declared.ways.Way.{Way}
 use Rattle.voice_store.specs.declared.ways.Way.TheVariants as ways
 use Rattle.voice_store.specs.Stood.{last_of, tapes_of, Upright, IsSure, IsUnsure, Stood}
 use Rattle.voice_store.specs.Ways.{IsWay}
-use Rattle.voice_store.specs.Facts.{is_edit}
-use Rattle.voice_store.specs.Trying.{Trying, Brings}
+use Rattle.voice_store.specs.Trying.{Trying}
 use Rattle.voice_store.specs.Keeping.{MakesRope, HasWay}
 use Rattle.voice_store.proofs.Refused.{wrong, kept_again}
 use Rattle.voice_store.proofs.Making.{IsMaking, edit_makes, may_commit}

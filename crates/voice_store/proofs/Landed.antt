@@ -1,11 +1,11 @@
 -- A call after a landing.
-use Rattle.std.proofs.Common.{◌≡◌, ◌⊎◌, inl, inr, ℕ, ◌+◌, ◌-◌, ◌≤◌, ◌<◌, ◌^◌, Bool, true, false, ◌&&◌, List, [], ◌∷◌, ◌++◌, Option, Some, None, IsTrue, is_some, refl, sym, ◌∙◌, ap, subst, arith}
+use Rattle.std.proofs.Common.{◌≡◌, ◌⊎◌, inl, inr, ℕ, ◌+◌, ◌≤◌, true, ◌&&◌, List, [], ◌∷◌, ◌++◌, None, IsTrue, is_some, refl, sym, ◌∙◌, ap, subst, arith}
 use Rattle.std.specs.Prelude.{Result, Ok, Err, IfOk, OnErr, Vec}
 use Rattle.std.specs.declared.alloc.Global.{Global}
 use Rattle.std.proofs.lemmas.List.{append_assoc}
 use Rattle.voice_outside.specs.Disk.{Told}
 use Rattle.voice_outside.specs.Counters.{HasRisen}
-use Rattle.voice_model.specs.State.{State, Pending}
+use Rattle.voice_model.specs.State.{State}
 use Rattle.voice_model.specs.Changes.{is_changing}
 use Rattle.voice_model.specs.Step.{landing_failed, after, Legal}
 use Rattle.voice_model.specs.Valid.{IsState}
@@ -14,9 +14,9 @@ use Rattle.voice_model.specs.declared.calls.Call.{Call}
 use Rattle.voice_model.specs.declared.calls.Reply.{Reply}
 use Rattle.voice_model.specs.declared.calls.Entry.{Entry}
 use Rattle.voice_store.specs.declared.inside.Inside.{Inside}
-use Rattle.voice_store.specs.declared.inside.Doubted.{Doubted}
-use Rattle.voice_store.specs.Stood.{last_of, tapes_of, Stood, Fills, IsSeated, AcksRise, AreQuiet, IsSure, IsUnsure, Lands}
+use Rattle.voice_store.specs.Stood.{last_of, tapes_of, Stood, Fills, Brings, IsSeated, AcksRise, AreQuiet, IsSure, IsUnsure, Lands}
 use Rattle.voice_model.specs.declared.calls.Call.TheVariants as calls
+use Rattle.voice_store.specs.Shown.{FaultsCover, Stands}
 use Rattle.voice_store.specs.Facts.{Adds, AddsLanding, Goes, entry_of, landing_at, is_built, most_calls}
 use Rattle.voice_store.proofs.Refused.{wrong}
 
@@ -114,8 +114,20 @@ module _ (first : State) (t0 : ℕ) (disk : Told) (s : Inside) (history : Vec En
         in_journal = unsure.in_journal;
         change = unsure.change;
         ready = unsure.ready;
+        addresses = unsure.addresses;
+        spelled = unsure.spelled;
+        later_fill = unsure.later_fill;
+        brings_it = subst (λ (t : State). Brings unsure.later_fill stood.b unsure.change t unsure.pending.effect) (sym last) unsure.brings_it;
         lands = subst (λ (t : State). Lands s.journal unsure.doubted stood.b stood.after t unsure.change unsure.doubt) (sym last) unsure.lands;
       })
 
 pub stood_reserved : (first : State) (t0 : ℕ) (disk : Told) (s s' : Inside) → s' ≡ record s { history = s'.history } → s'.history.items ≡ s.history.items → Stood first t0 disk s → Stood first t0 disk s'
 stood_reserved first t0 disk s s' rest items stood = subst (λ (x : Inside). Stood first t0 disk x) (sym rest) (stood_roomy first t0 disk s s'.history items stood)
+
+pub stands_reserved : (first : State) (origin disk : Told) (s s' : Inside) → s' ≡ record s { history = s'.history } → s'.history.items ≡ s.history.items → Stands first origin disk s → Stands first origin disk s'
+stands_reserved first origin disk s s' rest items stands = record {
+  stood = stood_reserved first (origin.calls + 1) disk s s' rest items stands.stood;
+  faults = subst (λ l. FaultsCover origin.faults l disk.faults) (sym items) stands.faults;
+  size = stands.size;
+  honest = stands.honest;
+}

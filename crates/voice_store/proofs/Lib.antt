@@ -18,6 +18,7 @@ pub mod Refused
 pub mod Results
 pub mod Rooms
 pub mod Settled
+pub mod Spare
 pub mod Spared
 pub mod Switched
 pub mod Taking

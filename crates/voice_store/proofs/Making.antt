@@ -1,17 +1,16 @@
 -- Calls that make a rope: what they reply and leave where nothing refuses them.
-use Rattle.std.proofs.Common.{◌≡◌, ◌⊎◌, inl, inr, ℕ, Bool, true, false, ◌||◌, not, cond, List, Option, Some, None, IsTrue, is_some, refl, sym, ◌∙◌, ap, subst}
+use Rattle.std.proofs.Common.{◌≡◌, inr, ℕ, Bool, true, false, ◌||◌, not, List, Option, Some, None, IsTrue, is_some, refl, ◌∙◌, ap}
 use Rattle.std.specs.Prelude.{is_none}
 use Rattle.voice_model.specs.Samples.{Tagged}
 use Rattle.voice_model.specs.State.{State, Effect, Pending}
 use Rattle.voice_model.specs.Changes.{effect_of, is_changing, committed}
-use Rattle.voice_model.specs.Step.{Outcome, outcome_of, refusal, reply_of, after_reply, after_answer, with_change, on_lanes, recording_closed, asked_in, reaches_device, nothing_to_land, state_after, samples_made, MayReply}
+use Rattle.voice_model.specs.Step.{refusal, reply_of, after_answer, with_change, on_lanes, recording_closed, asked_in, reaches_device, nothing_to_land, samples_made}
 use Rattle.voice_model.specs.Valid.{InRange}
 use Rattle.voice_model.specs.declared.calls.Call.{Call}
 use Rattle.voice_model.specs.declared.calls.Call.TheVariants as calls
-use Rattle.voice_model.specs.declared.calls.Reply.{Reply}
 use Rattle.voice_model.specs.declared.calls.Reply.TheVariants as replies
 use Rattle.voice_model.specs.declared.calls.Why.TheVariants as why
-use Rattle.voice_store.specs.Facts.{MayCommit, entry_of, is_built, is_edit}
+use Rattle.voice_store.specs.Facts.{MayCommit, is_built, is_edit}
 use Rattle.voice_store.proofs.Refused.{wrong, is_reply, stays_home, may_answer, after_answered}
 
 -- a call that makes a rope does nothing else

@@ -1,10 +1,10 @@
 -- A store with one entry more, and one whose disk went on.
-use Rattle.std.proofs.Common.{◌≡◌, ◌⊎◌, inl, inr, ℕ, ◌+◌, ◌≤◌, List, [], ◌∷◌, ◌++◌, Bool, IsTrue, refl, sym, ◌∙◌, ap, subst, arith}
+use Rattle.std.proofs.Common.{◌≡◌, ◌⊎◌, ℕ, ◌≤◌, List, [], ◌∷◌, ◌++◌, IsTrue, sym, ◌∙◌, ap, subst, arith}
 use Rattle.voice_outside.specs.Disk.{Told}
 use Rattle.voice_units.specs.Spots.{Spot}
 use Rattle.voice_journal.specs.Readings.{extent}
 use Rattle.voice_model.specs.Samples.{Tagged}
-use Rattle.voice_model.specs.State.{State, LaneState}
+use Rattle.voice_model.specs.State.{State}
 use Rattle.voice_model.specs.Step.{Legal, IsAnswer, state_after, after}
 use Rattle.voice_model.specs.Replay.{Rebuilt}
 use Rattle.voice_model.specs.Valid.{IsState}

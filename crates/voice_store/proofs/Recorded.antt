@@ -1,5 +1,5 @@
 -- Recordings, before the journal is asked.
-use Rattle.std.proofs.Common.{◌≡◌, ℕ, List, [], ◌∷◌, length, Option, None, sym, ◌∙◌, ap, arith}
+use Rattle.std.proofs.Common.{◌≡◌, ℕ, List, length, None, sym, ◌∙◌, ap, arith}
 use Rattle.voice_units.specs.declared.pieces.Take.{Take}
 use Rattle.voice_outside.specs.Disk.{Told}
 use Rattle.voice_model.specs.State.{State}

@@ -1,11 +1,9 @@
 -- Calls that leave the state as it was.
-use Rattle.std.proofs.Common.{◌≡◌, ◌⊎◌, inl, inr, ℕ, List, [], ◌∷◌, map, Bool, true, false, Option, Some, None, IsTrue, is_some, refl, sym, ◌∙◌, ap, subst}
+use Rattle.std.proofs.Common.{◌≡◌, ◌⊎◌, inl, inr, ℕ, List, [], ◌∷◌, map, true, false, Option, Some, None, IsTrue, refl, sym, ◌∙◌, ap, subst}
 use Rattle.voice_units.specs.Spots.{Spot}
-use Rattle.voice_units.specs.declared.pieces.Piece.{Piece}
 use Rattle.voice_model.specs.Samples.{Tagged, spot_of}
 use Rattle.voice_model.specs.State.{State, Live, Durable}
-use Rattle.voice_model.specs.Changes.{is_changing}
-use Rattle.voice_model.specs.Step.{Outcome, outcome_of, refusal, reply_by, reply_of, windows_home, answered, after_reply, state_by, state_after, nothing_to_land, landing_failed, MayReply, IsReply}
+use Rattle.voice_model.specs.Step.{Outcome, outcome_of, refusal, reply_by, windows_home, answered, after_reply, state_by, state_after, nothing_to_land, landing_failed, MayReply, IsReply}
 use Rattle.voice_model.specs.Replay.{Rebuilt, live_by, durable_by}
 use Rattle.voice_model.specs.declared.calls.Call.{Call}
 use Rattle.voice_model.specs.declared.calls.Call.TheVariants as calls

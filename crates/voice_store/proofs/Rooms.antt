@@ -1,10 +1,10 @@
 -- The free blocks of a state in which nothing is in doubt are the open addresses of the tables.
-use Rattle.std.proofs.Common.{◌≡◌, ℕ, zero, suc, ◌+◌, ◌-◌, ◌≤◌, ◌<◌, ◌==◌, Bool, true, false, cond, List, [], ◌∷◌, ◌++◌, map, length, flat_map, replicate, Option, Some, None, refl, sym, ◌∙◌, ap, subst, arith, eq-eqb}
+use Rattle.std.proofs.Common.{◌≡◌, ℕ, zero, suc, ◌+◌, ◌<◌, ◌==◌, Bool, true, false, cond, List, [], ◌∷◌, ◌++◌, length, flat_map, replicate, Some, None, refl, sym, ◌∙◌, ap, subst, arith, eq-eqb}
 use Rattle.std.specs.Prelude.{slice_set, sum_by}
 use Rattle.std.proofs.lemmas.Bool.{eqb-true}
 use Rattle.std.proofs.lemmas.List.{map-append}
 use Rattle.voice_units.specs.Spots.{Spot}
-use Rattle.voice_units.specs.Blocks.{BlockPair, distinct}
+use Rattle.voice_units.specs.Blocks.{distinct}
 use Rattle.voice_model.specs.Samples.{Tagged, spot_of}
 use Rattle.voice_model.specs.State.{State, Durable, LaneState, quiet_lane}
 use Rattle.voice_model.specs.Room.{pair_of, pairs_of, used, free, held_by_lane, held_by_doubt, taking_blocks}

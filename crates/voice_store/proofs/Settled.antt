@@ -1,5 +1,5 @@
 -- What was in doubt has landed.
-use Rattle.std.proofs.Common.{rules, ◌≡◌, ◌⊎◌, inl, inr, ℕ, ◌+◌, ◌≤◌, List, [], ◌∷◌, ◌++◌, Bool, true, false, Option, Some, None, is_some, IsTrue, refl, sym, ◌∙◌, ap, subst, arith}
+use Rattle.std.proofs.Common.{rules, ◌≡◌, ◌⊎◌, inl, inr, ℕ, ◌≤◌, List, [], ◌∷◌, ◌++◌, true, false, Option, Some, None, is_some, IsTrue, refl, sym, ◌∙◌, ap, subst, arith}
 use Rattle.std.specs.Prelude.{is_none}
 use Rattle.voice_outside.specs.Disk.{Told}
 use Rattle.voice_units.specs.declared.shapes.Shape.{Shape}
@@ -8,15 +8,13 @@ use Rattle.voice_journal.specs.Readings.{extent}
 use Rattle.voice_journal.specs.declared.seats.Doubt.{Doubt}
 use Rattle.voice_model.specs.Samples.{Tagged}
 use Rattle.voice_model.specs.State.{State, Durable, LaneState, Pending}
-use Rattle.voice_model.specs.Changes.{committed}
-use Rattle.voice_model.specs.Step.{landed, after_landing, state_after, IsAnswer}
+use Rattle.voice_model.specs.Step.{landed, after_landing, state_after}
 use Rattle.voice_model.specs.Replay.{Rebuilt, acted}
-use Rattle.voice_model.specs.declared.calls.Entry.{Entry}
 use Rattle.recovery.specs.Shown.{Rebuilds}
 use Rattle.recovery.specs.declared.parts.Parts.{Parts}
 use Rattle.next_ropes.specs.Ready.{IsReady}
 use Rattle.next_ropes.specs.declared.NextRope.{NextRope}
-use Rattle.crash_laws.specs.Standing.{IsLater, IsHeld}
+use Rattle.crash_laws.specs.Standing.{IsLater}
 use Rattle.crash_laws.specs.Calls.{Lands, StaysInDoubt, LandsWithin}
 use Rattle.crash_laws.specs.Laws.{LandingsCarry}
 use Rattle.voice_store.specs.declared.inside.Inside.{Inside}
@@ -35,17 +33,23 @@ landed_doubt : (s : State) (o : Option Pending) → (after_landing (record s { d
 landed_doubt s None = refl
 landed_doubt s (Some pending) = refl
 
+pub none_some : {A : Type 0} (x : A) → None ≡ Some x → ⊥
+none_some x e = cc
+
+true_false : true ≡ false → ⊥
+true_false e = cc
+
 -- only where a change is in doubt is a rope ready
 pub unsure_of : (s : Inside) (b after' : Rebuilt) (last : State) (doubted : Doubted) → s.doubt ≡ Some doubted → IsSure s b after' last ⊎ IsUnsure s b after' last → IsUnsure s b after' last
-unsure_of s b after' last doubted is (inl sure) = let bad : None ≡ Some doubted = sym sure.sure ∙ is in cc
+unsure_of s b after' last doubted is (inl sure) = absurd (none_some doubted (sym sure.sure ∙ is))
 unsure_of s b after' last doubted is (inr unsure) = unsure
 
 pub sure_of : (s : Inside) (b after' : Rebuilt) (last : State) → s.doubt ≡ None → IsSure s b after' last ⊎ IsUnsure s b after' last → IsSure s b after' last
 sure_of s b after' last is (inl sure) = sure
-sure_of s b after' last is (inr unsure) = let bad : None ≡ Some unsure.doubted = sym is ∙ unsure.unsure in cc
+sure_of s b after' last is (inr unsure) = absurd (none_some unsure.doubted (sym is ∙ unsure.unsure))
 
 pub unsure_by : (s : Inside) (b after' : Rebuilt) (last : State) → is_none s.doubt ≡ false → IsSure s b after' last ⊎ IsUnsure s b after' last → IsUnsure s b after' last
-unsure_by s b after' last is (inl sure) = let bad : true ≡ false = sym (ap (λ (o : Option Doubted). is_none o) sure.sure) ∙ is in cc
+unsure_by s b after' last is (inl sure) = absurd (true_false (sym (ap (λ (o : Option Doubted). is_none o) sure.sure) ∙ is))
 unsure_by s b after' last is (inr unsure) = unsure
 
 pub same_doubted : (s : Inside) (x y : Doubted) → s.doubt ≡ Some x → s.doubt ≡ Some y → x ≡ y

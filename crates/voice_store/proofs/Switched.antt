@@ -1,15 +1,13 @@
 -- A change that was written as a base, by what the journal says of it.
-use Rattle.std.proofs.Common.{◌≡◌, ◌≢◌, ℕ, zero, suc, ◌+◌, ◌-◌, ◌≤◌, ◌<◌, ◌==◌, List, [], ◌∷◌, ◌++◌, map, length, Bool, true, false, cond, ◌||◌, Option, Some, None, is_some, IsTrue, refl, sym, ◌∙◌, ap, subst, arith}
-use Rattle.std.proofs.lemmas.Bool.{leb-true}
+use Rattle.std.proofs.Common.{◌≡◌, ℕ, ◌+◌, ◌-◌, ◌≤◌, ◌<◌, ◌==◌, List, [], ◌∷◌, ◌++◌, map, Bool, true, false, cond, ◌||◌, Some, None, is_some, IsTrue, refl, sym, ◌∙◌, ap, subst, arith}
 use Rattle.std.specs.Prelude.{nat_le}
 use Rattle.voice_outside.specs.Disk.{Told}
 use Rattle.voice_units.specs.declared.shapes.Shape.{Shape}
 use Rattle.voice_journal.specs.Readings.{switched, formatted, framed_size}
-use Rattle.voice_journal.specs.Places.{JournalValue, landed as landed_seat}
-use Rattle.voice_journal.specs.declared.seats.Doubt.{Doubt}
+use Rattle.voice_journal.specs.Places.{landed as landed_seat}
 use Rattle.voice_journal.specs.declared.seats.Doubt.TheVariants.{Area}
 use Rattle.voice_model.specs.Samples.{Tagged}
-use Rattle.voice_model.specs.State.{State, Durable, Effect, Pending}
+use Rattle.voice_model.specs.State.{State, Durable, Effect}
 use Rattle.voice_model.specs.Changes.{committed, changed, frame_size, base_size, form_after_switch}
 use Rattle.voice_model.specs.Spelling.{spelling}
 use Rattle.voice_model.specs.Step.{state_after}
@@ -20,19 +18,16 @@ use Rattle.voice_model.specs.Base as changes
 use Rattle.voice_model.specs.Places.{IsPlaced, AllUsed}
 use Rattle.voice_model.specs.Valid.{IsRebuilt}
 use Rattle.voice_model.specs.declared.calls.Call.{Call}
-use Rattle.voice_model.specs.declared.calls.Reply.TheVariants as replies
-use Rattle.voice_model.specs.declared.calls.Why.TheVariants as why
-use Rattle.voice_model.specs.declared.calls.Entry.{Entry}
 use Rattle.voice_model.specs.declared.changes.Change.{Change}
 use Rattle.voice_model.specs.declared.changes.Change.TheVariants as kinds
 use Rattle.voice_model.proofs.BaseSize.{base_sized}
 use Rattle.journal_readings.specs.Readings.{Rebuild}
 use Rattle.journal_readings.proofs.Replays as replays
 use Rattle.next_ropes.specs.declared.NextRope.{NextRope}
-use Rattle.recovery.specs.Shown.{Shows, Rebuilds, ShowsPlaces, placed_at, plain_sample}
+use Rattle.recovery.specs.Shown.{Shows, Rebuilds, placed_at, plain_sample}
 use Rattle.recovery.specs.declared.parts.Parts.{Parts}
 use Rattle.crash_laws.specs.Standing.{IsLater, IsHeld}
-use Rattle.crash_laws.specs.Calls.{Does, Undoes, Doubts, StaysWithin, IsBase, IsCommitted, IsInDoubt}
+use Rattle.crash_laws.specs.Calls.{Does, Doubts, StaysWithin, IsBase, IsCommitted, IsInDoubt}
 use Rattle.crash_laws.specs.Laws.{SwitchesCarry, IsReadBack}
 use Rattle.crash_laws.proofs.Commits.{acted_form}
 use Rattle.voice_store.specs.declared.inside.Inside.{Inside}

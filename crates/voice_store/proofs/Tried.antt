@@ -1,16 +1,16 @@
 -- A change that went to the journal: it is done, it failed before it counted, or it is in doubt.
-use Rattle.std.proofs.Common.{◌≡◌, ◌⊎◌, inl, inr, ℕ, ◌+◌, ◌≤◌, List, [], ◌∷◌, ◌++◌, Option, Some, None, IsTrue, refl, sym, ◌∙◌, ap, subst, arith}
+use Rattle.std.proofs.Common.{◌≡◌, inl, inr, ℕ, ◌≤◌, [], ◌∷◌, ◌++◌, Option, Some, None, IsTrue, refl, sym, ◌∙◌, ap, subst, arith}
 use Rattle.voice_outside.specs.Disk.{Told}
 use Rattle.voice_units.specs.declared.shapes.Shape.{Shape}
-use Rattle.voice_units.specs.Spots.{Spot, samples_in}
+use Rattle.voice_units.specs.Spots.{samples_in}
 use Rattle.voice_journal.specs.Places.{JournalValue, landed as landed_seat}
 use Rattle.voice_journal.specs.Readings.{extent}
 use Rattle.voice_journal.specs.declared.seats.Seat.{Seat}
 use Rattle.voice_journal.specs.declared.seats.Doubt.{Doubt}
 use Rattle.voice_model.specs.Samples.{Tagged}
-use Rattle.voice_model.specs.State.{State, Durable, LaneState, Pending, Effect}
+use Rattle.voice_model.specs.State.{State, Durable, Pending, Effect}
 use Rattle.voice_model.specs.Changes.{committed}
-use Rattle.voice_model.specs.Step.{landed, state_after, IsAnswer, IsReply, reply_of}
+use Rattle.voice_model.specs.Step.{landed, state_after, IsAnswer, IsReply}
 use Rattle.voice_model.specs.Replay.{Rebuilt, acted}
 use Rattle.voice_model.specs.Valid.{IsState}
 use Rattle.voice_model.specs.declared.calls.Call.{Call}
@@ -27,7 +27,7 @@ use Rattle.next_ropes.specs.declared.NextRope.{NextRope}
 use Rattle.crash_laws.specs.Standing.{IsHeld}
 use Rattle.voice_store.specs.declared.inside.Inside.{Inside}
 use Rattle.voice_store.specs.declared.inside.Doubted.{Doubted}
-use Rattle.voice_store.specs.Stood.{tapes_of, last_of, in_form, Fills, IsSeated, AreQuiet, IsSure, IsUnsure, Stood, Lands}
+use Rattle.voice_store.specs.Stood.{tapes_of, last_of, in_form, Fills, Brings, IsSeated, AreQuiet, Stood, Lands}
 use Rattle.voice_store.specs.Facts.{entry_of, landing_at}
 use Rattle.voice_store.specs.Trying.{Trying}
 use Rattle.voice_store.proofs.Pushed.{stood_pushed}
@@ -156,6 +156,10 @@ module _ (first : State) (t0 : ℕ) (old new : Told) (s s' : Inside) (b : Rebuil
         in_journal = unsure;
         change = c;
         ready = subst (λ (p : Parts). IsReady p b doubted.next c) (sym parts) (subst (λ (n : NextRope). IsReady s.parts b n c) (sym same) tr.ready);
+        addresses = tr.addresses;
+        spelled = tr.change;
+        later_fill = tr.later_fill;
+        brings_it = to (λ t. Brings tr.later_fill b c t effect) (record { spots = tr.brings_it.spots; kept = tr.brings_it.kept });
         lands = to (λ t. Lands s'.journal doubted b after' t c doubt) (record {
           tables = tables;
           fill = tr.later_fill;

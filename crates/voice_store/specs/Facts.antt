@@ -9,13 +9,13 @@
 --     TakesAreIn, HasRopes      what the store wants of the words of a call
 --     is_built call, is_edit call      a call that the store can do;  one that makes a rope of others
 --     most_calls block call      how many device calls its answer takes at most
-use Rattle.std.specs.Prelude.{◌≡◌, ◌⊎◌, ℕ, ◌+◌, ◌≤◌, Bool, true, false, List, [], ◌∷◌, ◌++◌, length, Some, None, IsTrue}
+use Rattle.std.specs.Prelude.{◌≡◌, ◌⊎◌, ℕ, ◌+◌, ◌≤◌, Bool, true, false, List, [], ◌∷◌, ◌++◌, length, Some, None}
 use Rattle.voice_outside.specs.Disk.{Told}
 use Rattle.voice_model.specs.Samples.{Tagged}
 use Rattle.voice_model.specs.State.{State, Effect}
-use Rattle.voice_model.specs.Changes.{committed, effect_of, is_changing}
+use Rattle.voice_model.specs.Changes.{committed}
 use Rattle.voice_model.specs.Tapes.{HasTake}
-use Rattle.voice_model.specs.Step.{IsReply, state_after, refusal, reply_of, outcome_of}
+use Rattle.voice_model.specs.Step.{IsReply, state_after, reply_of, outcome_of}
 use Rattle.voice_model.specs.declared.calls.Call.{Call}
 use Rattle.voice_model.specs.declared.calls.Call.TheVariants as calls
 use Rattle.voice_model.specs.declared.calls.Reply.{Reply}

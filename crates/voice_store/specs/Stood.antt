@@ -1,12 +1,14 @@
 -- What a store keeps, between its calls.
 --     last_state first tapes history      the state after the history
 --     Fills fill b s      what is rebuilt, filled in so, is what outlives a crash of the state
+--     Brings fill b c s effect      the change, filled in so, is the effect
+--     ShowsState parts s      the tables show what outlives a crash of the state
 --     IsSeated journal size s      the journal's place and the size of the base are those of the state
 --     AcksRise low history high      the moments of the entries never fall, and lie between these
 --     Upright      the history is legal, and the disk holds it, whatever the tables show
 --     IsSure, IsUnsure      the tables show the state: nothing is in doubt, or a rope is ready to come
 --     Stood      all of it, but for the count of faults
-use Rattle.std.specs.Prelude.{◌≡◌, ◌⊎◌, ℕ, ◌+◌, ◌-◌, ◌^◌, ◌≤◌, Bool, true, false, List, [], ◌∷◌, length, replicate, Option, Some, None, IsTrue}
+use Rattle.std.specs.Prelude.{◌≡◌, ◌⊎◌, ℕ, ◌+◌, ◌≤◌, Bool, true, false, List, [], ◌∷◌, length, replicate, Some, None, IsTrue}
 use Rattle.std.specs.Arc.{arc_value}
 use Rattle.voice_units.specs.Spots.{Spot}
 use Rattle.voice_outside.specs.Disk.{Told}
@@ -14,15 +16,15 @@ use Rattle.voice_journal.specs.Places.{JournalValue, landed as landed_seat}
 use Rattle.voice_journal.specs.Readings.{extent}
 use Rattle.voice_journal.specs.declared.seats.Doubt.{Doubt}
 use Rattle.voice_model.specs.Samples.{Tagged, spot_of}
-use Rattle.voice_model.specs.State.{State, LaneState, Pending, quiet_lane}
+use Rattle.voice_model.specs.State.{State, Effect, LaneState, Pending, quiet_lane}
 use Rattle.voice_model.specs.Changes.{base_size, changed}
 use Rattle.voice_model.specs.Step.{Legal, Outcome, outcome_of, landed}
 use Rattle.voice_model.specs.Step as step
 use Rattle.voice_model.specs.Replay.{Rebuilt, durable_by, acted}
-use Rattle.voice_model.specs.Valid.{Every, IsState}
+use Rattle.voice_model.specs.Base.{change_of}
+use Rattle.voice_model.specs.Valid.{IsState}
 use Rattle.voice_model.specs.declared.changes.Change.{Change}
 use Rattle.voice_model.specs.declared.calls.Entry.{Entry}
-use Rattle.voice_model.specs.declared.calls.Reply.{Reply}
 use Rattle.recovery.specs.Shown.{Rebuilds}
 use Rattle.recovery.specs.declared.parts.Parts.{Parts}
 use Rattle.next_ropes.specs.Ready.{IsReady}
@@ -45,6 +47,18 @@ pub record Fills (fill : Spot → Tagged) (b : Rebuilt) (s : State) : Type 0 whe
   pub spots : (x : Spot) → spot_of (fill x) ≡ x
   pub kept : durable_by fill b.kept ≡ s.kept
   pub form : b.form ≡ s.form
+
+-- what a change rebuilds, filled in so, is the state with its effect
+pub record Brings (fill : Spot → Tagged) (b : Rebuilt) (c : Change) (s : State) (effect : Effect Tagged) : Type 0 where
+  pub spots : (x : Spot) → spot_of (fill x) ≡ x
+  pub kept : durable_by fill (acted b c).kept ≡ changed s.form s.kept effect
+
+-- the tables show what outlives a crash of the state, but for the bytes of the samples
+pub record ShowsState (parts : Parts) (s : State) : Type 0 where
+  pub rebuilt : Rebuilt
+  pub tables : Rebuilds parts rebuilt
+  pub fill : Spot → Tagged
+  pub fills : Fills fill rebuilt s
 
 -- the journal's place and the size of the base are those of the state
 pub record IsSeated (journal : JournalValue) (size : ℕ) (s : State) : Type 0 where
@@ -109,6 +123,10 @@ pub record IsUnsure (s : Inside) (b after : Rebuilt) (last : State) : Type 0 whe
   pub in_journal : s.journal.doubt ≡ Some doubt
   pub change : Change
   pub ready : IsReady s.parts b doubted.next change
+  pub addresses : List ℕ
+  pub spelled : change ≡ change_of b.form addresses pending.effect
+  pub later_fill : Spot → Tagged
+  pub brings_it : Brings later_fill b change last pending.effect
   pub lands : Lands s.journal doubted b after last change doubt
 
 -- what a store keeps, between its calls, that was opened at moment t0

@@ -1,6 +1,5 @@
 -- A change that is about to be made.
 --     IsBaseOf shape r base      a base of what is rebuilt, in the form that a switch takes
---     Brings fill b c s effect      the change, filled in so, is the effect
 --     Trying      all that is known as a change goes to the journal
 --     IsReadyIn s next      a rope is ready in the tables of a store
 --     IsPlan journal s effect r plan      the change gets into the journal so; r is what is rebuilt after it
@@ -10,13 +9,13 @@ use Rattle.voice_units.specs.declared.shapes.Shape.{Shape}
 use Rattle.voice_units.specs.Spots.{Spot, samples_in}
 use Rattle.voice_outside.specs.Disk.{Told}
 use Rattle.voice_journal.specs.Readings.{extent, framed_size}
-use Rattle.voice_model.specs.Samples.{Tagged, spot_of}
+use Rattle.voice_model.specs.Samples.{Tagged}
 use Rattle.voice_model.specs.State.{State, Effect}
 use Rattle.voice_model.specs.Changes.{changed, base_size, frame_size}
 use Rattle.voice_journal.specs.Places.{JournalValue}
 use Rattle.voice_model.specs.Spelling.{spelling}
 use Rattle.voice_model.specs.Step.{reply_of}
-use Rattle.voice_model.specs.Replay.{Rebuilt, acted, durable_by, recovered}
+use Rattle.voice_model.specs.Replay.{Rebuilt, acted, recovered}
 use Rattle.voice_model.specs.Base.{base_of, change_of}
 use Rattle.voice_model.specs.Base as changes
 use Rattle.voice_model.specs.Valid.{InRange, IsRebuilt}
@@ -32,7 +31,7 @@ use Rattle.voice_store.specs.declared.committing.Plan.{Plan}
 use Rattle.voice_store.specs.declared.committing.Plan.TheVariants as plans
 use Rattle.voice_store.specs.Ways.{FitsBehind, FitsOther}
 use Rattle.voice_store.specs.declared.inside.Inside.{Inside}
-use Rattle.voice_store.specs.Stood.{tapes_of, last_of, Fills, Upright}
+use Rattle.voice_store.specs.Stood.{tapes_of, last_of, Upright, Brings}
 use Rattle.voice_store.specs.Facts.{MayCommit}
 
 -- the form that a switch takes: 2, but 1 from form 1 where a base of form 2 does not fit an area
@@ -48,11 +47,6 @@ pub record IsBaseOf (shape : Shape) (r : Rebuilt) (base : Base) : Type 0 where
   pub valid : IsRebuilt plain_sample r
   pub placed : IsPlaced r
   pub used : AllUsed r
-
--- what a change rebuilds, filled in so, is the state with its effect
-pub record Brings (fill : Spot → Tagged) (b : Rebuilt) (c : Change) (s : State) (effect : Effect Tagged) : Type 0 where
-  pub spots : (x : Spot) → spot_of (fill x) ≡ x
-  pub kept : durable_by fill (acted b c).kept ≡ changed s.form s.kept effect
 
 -- all that is known as a change goes to the journal
 pub record Trying (first : State) (t0 : ℕ) (disk : Told) (s : Inside) (b : Rebuilt) (next : NextRope) (c : Change) (effect : Effect Tagged) (caller : ℕ) (call : Call) : Type 0 where

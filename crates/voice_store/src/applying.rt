@@ -1,6 +1,6 @@
 //! One call of the store.
 
-ghost use Rattle.std.specs.Prelude.{◌≡◌, ◌+◌, ◌≤◌, ◌<◌, ◌++◌, ◌∷◌, [], ℕ, None, true, false, is_some, IsTrue, IfSome, IfNone, IfOk, OnErr, vec_len, vec_capacity};
+ghost use Rattle.std.specs.Prelude.{◌≡◌, ◌+◌, ◌≤◌, ◌<◌, ◌++◌, ◌∷◌, [], ℕ, None, true, false, is_some, IsTrue, IfSome, IfNone, IsOk, IfOk, OnErr, vec_len, vec_capacity};
 ghost use Rattle.voice_outside.specs.Counters.{HasRisen};
 ghost use Rattle.voice_model.specs.State.{State};
 ghost use Rattle.voice_model.specs.Changes.{is_changing};
@@ -127,6 +127,7 @@ impl Inside {
         requires ropes { HasRopes call }
         ensures entry { IfOk result (λ reply. Adds caller call reply (D.told disk.new).calls self.old.history.items self.new.history.items) }
         ensures err { OnErr result (AddsLanding self.old.history.items self.new.history.items) }
+        ensures spare { (rope : ℕ) → call ≡ Call.Length rope → vec_len self.old.history + 2 ≤ vec_capacity self.old.history → IsOk result }
         ensures cause { IfOk result (λ reply. IsFault reply → HasRisen (D.told disk.old).faults (D.told disk.new).faults) }
         ensures goes { (block : ℕ) → Goes (most_calls block call) (D.told disk.old) (D.told disk.new) }
         ensures tapes { self.new.tapes ≡ self.old.tapes }

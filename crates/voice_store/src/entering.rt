@@ -1,6 +1,6 @@
 //! Entries of the history.
 
-ghost use Rattle.std.specs.Prelude.{◌≡◌, ◌+◌, ◌≤◌, ◌<◌, ◌++◌, ◌∷◌, [], ℕ, vec_len, vec_capacity, OnOk, OnErr};
+ghost use Rattle.std.specs.Prelude.{◌≡◌, ◌+◌, ◌≤◌, ◌<◌, ◌++◌, ◌∷◌, [], ℕ, vec_len, vec_capacity, IsOk, OnOk, OnErr};
 ghost use Rattle.voice_model.specs.State.{State};
 ghost use Rattle.voice_store.specs.Stood.{Stood, last_of, tapes_of};
 ghost use Rattle.voice_store.specs.Facts.{Stays, entry_of};
@@ -29,6 +29,7 @@ impl Inside {
     /// Makes room for so many entries.
     pub(crate) fn reserve(&mut self, n: u32) -> Result<(), NoMemory>
         ensures ok { OnOk result (vec_len self.new.history + n ≤ vec_capacity self.new.history) }
+        ensures spare { vec_len self.old.history + n ≤ vec_capacity self.old.history → IsOk result }
         ensures items { self.new.history.items ≡ self.old.history.items }
         ensures rest { self.new ≡ record self.old { history = self.new.history } }
     {

@@ -1,17 +1,21 @@
 //! The store.
 
-ghost use Rattle.std.specs.Prelude.{◌≡◌, ◌≤◌, ◌+◌, ◌-◌, ◌⊎◌, ℕ, [], Some, IsTrue, IfOk, IfErr, OnOk, OnErr};
+ghost use Rattle.std.specs.Prelude.{◌≡◌, ◌≤◌, ◌+◌, ◌-◌, ◌⊎◌, ℕ, [], Some, None, IsTrue, IsOk, IfOk, IfErr, OnOk, OnErr, vec_len, vec_capacity};
 ghost use Rattle.std.specs.Arc.{arc_value};
 ghost use Rattle.voice_outside.specs.Counters.{HasRisen};
 ghost use Rattle.voice_outside.specs.Disk.{MakesAtMost, Now};
 ghost use Rattle.voice_journal.specs.Readings.{extent};
 ghost use Rattle.voice_journal.specs.Formatted.{IsFormatted, SameButHeads};
-ghost use Rattle.voice_model.specs.State.{State};
+ghost use Rattle.voice_model.specs.State.{State, formatted};
+ghost use Rattle.voice_model.specs.Room.{free};
 ghost use Rattle.voice_model.specs.Image.{Reading, reading, opened_from};
 ghost use Rattle.voice_store.specs.Shown.{Stands};
+ghost use Rattle.voice_store.specs.Stood.{ShowsState, last_state};
 ghost use Rattle.voice_store.specs.Facts.{Adds, AddsLanding, Goes, IsFault, TakesAreIn, HasRopes, is_built, most_calls};
 
 use crate::inside::Inside;
+use journal_readings::laws::opens_empty;
+use recovery::Parts;
 use std::alloc::Global;
 use std::marker::Model;
 use std::snapshot::Snapshot;
@@ -46,8 +50,11 @@ impl<D: Disk> Store<D> {
         requires { extent shape.now ≤ (D.told disk.old).size }
         ensures made { MakesAtMost 3 (D.told disk.old) (D.told disk.new) result }
         ensures ok { IsTrue (D.told disk.old).honest → OnOk result (Now (D.told disk.new) (IsFormatted shape.now (D.told disk.old).bytes)) }
+        // It opens as the empty state of the shape.
+        ensures opens { IsTrue (D.told disk.old).honest → OnOk result (Now (D.told disk.new) (λ image. opened_from image ≡ Some (formatted shape.now))) }
         ensures bytes { IsTrue (D.told disk.old).honest → SameButHeads shape.now (D.told disk.old).bytes (D.told disk.new).bytes }
     {
+        opens_empty();
         Journal::format(disk, shape)
     }
 
@@ -86,12 +93,24 @@ impl<D: Disk> Store<D> {
         ensures err { OnErr result (AddsLanding self.old.history self.new.history) }
         // The history stays legal, and what a crash may leave since an entry is that entry's state or a later one.
         ensures state { (first : State) → Stands first (D.told self.old.origin) (D.told self.old.disk) self.old.inside → Stands first (D.told self.new.origin) (D.told self.new.disk) self.new.inside }
+        // A length takes no memory where there is room for its entry and one more.
+        ensures spare { (rope : ℕ) → call ≡ Call.Length rope → vec_len self.old.inside.history + 2 ≤ vec_capacity self.old.inside.history → IsOk result }
         ensures cause { IfOk result (λ reply. IsFault reply → HasRisen (D.told self.old.disk).faults (D.told self.new.disk).faults) }
         ensures goes { Goes (most_calls self.old.inside.journal.shape.block call) (D.told self.old.disk) (D.told self.new.disk) }
         ensures origin { self.new.origin ≡ self.old.origin }
         ensures tapes { self.new.tapes ≡ self.old.tapes }
     {
         self.inside.apply(&mut self.disk, caller, call)
+    }
+
+    /// Makes room for so many entries of the history; all else stays, whatever the answer.
+    pub fn reserve(&mut self, n: u32) -> Result<(), NoMemory>
+        ensures room { OnOk result (vec_len self.new.inside.history + n ≤ vec_capacity self.new.inside.history) }
+        ensures history { self.new.history ≡ self.old.history }
+        ensures state { (first : State) → Stands first (D.told self.old.origin) (D.told self.old.disk) self.old.inside → Stands first (D.told self.new.origin) (D.told self.new.disk) self.new.inside }
+        ensures rest { (self.new.disk ≡ self.old.disk) × (self.new.origin ≡ self.old.origin) × (self.new.tapes ≡ self.old.tapes) }
+    {
+        self.inside.reserve(n)
     }
 
     /// The calls so far, in order.
@@ -106,6 +125,29 @@ impl<D: Disk> Store<D> {
         ensures { result ≡ self.now.inside.journal.shape.lanes }
     {
         self.inside.journal.shape().lanes
+    }
+
+    /// How many blocks nothing uses: no live rope, and no change in doubt.
+    pub fn free(&self) -> u32
+        ensures { (first : State) → Stands first (D.told self.now.origin) (D.told self.now.disk) self.now.inside → result ≡ free (last_state first self.now.tapes self.now.history) }
+    {
+        self.inside.parts.blocks.free()
+    }
+
+    /// The shape of the disk.
+    pub fn shape(&self) -> Shape
+        ensures value { result ≡ self.now.inside.journal.shape }
+        ensures state { (first : State) → Stands first (D.told self.now.origin) (D.told self.now.disk) self.now.inside → (last_state first self.now.tapes self.now.history).kept.shape ≡ result }
+    {
+        self.inside.journal.shape()
+    }
+
+    /// The tables of ropes, interests and blocks. Where nothing is in doubt they show what outlives a crash of the state.
+    pub fn parts(&self) -> &Parts
+        ensures same { result.now ≡ self.now.inside.parts }
+        ensures shows { (first : State) → Stands first (D.told self.now.origin) (D.told self.now.disk) self.now.inside → (last_state first self.now.tapes self.now.history).doubt ≡ None → ShowsState result.now (last_state first self.now.tapes self.now.history) }
+    {
+        &self.inside.parts
     }
 
     /// Hands the disk and the history back.

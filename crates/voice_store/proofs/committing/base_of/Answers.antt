@@ -1,6 +1,5 @@
-use Rattle.std.proofs.Common.{arith, ◌≡◌, ℕ, ◌<◌, ◌-◌, ◌==◌, Bool, false, refl, sym, ◌∙◌, ap}
+use Rattle.std.proofs.Common.{arith, ◌≡◌, ℕ, ◌-◌, ◌==◌, false, sym, ◌∙◌, ap}
 use Rattle.std.specs.Prelude.{nat_le}
-use Rattle.voice_journal.specs.Readings.{framed_size}
 use Rattle.voice_model.specs.Base.{base_of}
 use Rattle.voice_model.specs.Base as changes
 use Rattle.checkpoint.proofs.Held.{can_spell}

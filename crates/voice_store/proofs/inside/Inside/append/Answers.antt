@@ -1,11 +1,7 @@
-use Rattle.std.proofs.Common.{rules, ◌≡◌, ◌++◌, ◌∷◌, [], ℕ, List, length, Bool, Some, None, IsTrue, refl, sym, ◌∙◌, ap, subst}
-use Rattle.std.specs.Prelude.{Result, Err}
+use Rattle.std.proofs.Common.{◌≡◌, Bool, IsTrue, refl, sym, ◌∙◌, ap, subst}
+use Rattle.std.specs.Prelude.{Err}
 use Rattle.voice_journal.specs.declared.errors.Fault.{Fault}
-use Rattle.voice_outside.specs.Disk.{Told}
-use Rattle.voice_units.specs.declared.shapes.Shape.{Shape}
-use Rattle.voice_journal.specs.Places.{JournalValue, landed as landed_seat}
-use Rattle.voice_journal.specs.declared.seats.Doubt.TheVariants.{Record}
-use Rattle.voice_model.specs.declared.calls.Entry.{Entry}
+use Rattle.voice_journal.specs.Places.{JournalValue}
 use Rattle.voice_journal.specs.Readings.{with_payload}
 use Rattle.crash_laws.specs.Calls.{Does, Undoes, Doubts}
 use Rattle.crash_laws.specs.Standing.{IsLater}
@@ -13,7 +9,6 @@ use Rattle.crash_laws.proofs.Commits.{appends_carry}
 use Rattle.crash_laws.proofs.Changing.{failures_carry}
 use Rattle.voice_store.specs.declared.inside.Inside.{Inside}
 use Rattle.voice_store.specs.declared.inside.Doubted.{Doubted}
-use Rattle.voice_store.specs.Facts.{entry_of}
 use Rattle.voice_store.proofs.Appended.{appended_stood, append_waits, failed_stood}
 use Rattle.voice_store.proofs.Tried.{shape_tried}
 use Rattle.voice_store.proofs.Settled.{ready_again}

@@ -1,4 +1,4 @@
-use Rattle.std.proofs.Common.{◌≡◌, sym, subst}
+use Rattle.std.proofs.Common.{subst}
 use Rattle.voice_store.specs.declared.committing.Plan.{Plan}
 use Rattle.voice_store.specs.Trying.{IsPlan}
 use Rattle.voice_store.specs.Stood.{last_of}

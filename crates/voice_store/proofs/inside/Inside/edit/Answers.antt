@@ -1,4 +1,4 @@
-use Rattle.std.proofs.Common.{[], sym, subst}
+use Rattle.std.proofs.Common.{[], subst}
 use Rattle.voice_store.specs.Stood.{last_of, tapes_of}
 use Rattle.voice_store.specs.Facts.{IsFault}
 use Rattle.edits.specs.Shown.{IsMade}

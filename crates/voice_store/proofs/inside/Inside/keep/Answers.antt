@@ -1,6 +1,6 @@
 use Rattle.std.proofs.Common.{◌+◌, ◌*◌, ◌==◌, cond, ◌∙◌, ap}
 use Rattle.voice_model.specs.State.Effect.{Edited}
-use Rattle.voice_store.specs.Stood.{last_of, tapes_of}
+use Rattle.voice_store.specs.Stood.{last_of}
 use Rattle.voice_store.specs.declared.ways.Way.TheVariants as ways
 use Rattle.voice_store.proofs.Making.{nothing_lands}
 use Rattle.voice_store.proofs.Kept.{is_sure, frame_of, need_of, refused_full, has_way}

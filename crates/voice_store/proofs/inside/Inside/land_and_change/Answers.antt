@@ -1,4 +1,4 @@
-use Rattle.std.proofs.Common.{◌≡◌, ◌+◌, ◌≤◌, ◌++◌, ◌∷◌, [], ℕ, sym, arith}
+use Rattle.std.proofs.Common.{◌≡◌, ◌++◌, ◌∷◌, [], arith}
 use Rattle.voice_outside.specs.Counters.{HasRisen}
 use Rattle.voice_model.specs.declared.calls.Reply.{Reply}
 use Rattle.voice_store.specs.Facts.{Adds, AddsLanding, IsFault, entry_of, most_calls}

@@ -1,9 +1,6 @@
-use Rattle.std.proofs.Common.{◌≡◌, ◌⊎◌, inl, inr, ◌++◌, ◌∷◌, [], ℕ, List, IsTrue, refl, sym, ap, subst}
-use Rattle.voice_model.specs.State.{State}
-use Rattle.voice_model.specs.declared.calls.Entry.{Entry}
+use Rattle.std.proofs.Common.{IsTrue}
 use Rattle.crash_laws.specs.Standing.{IsHonest}
 use Rattle.crash_laws.proofs.Noted.{entries_count}
-use Rattle.voice_store.specs.Stood.{Stood}
 use Rattle.voice_store.specs.Facts.{entry_of}
 use Rattle.voice_store.proofs.Entries.{stood_noted}
 use Rattle.voice_store.proofs.inside.Inside.note.Goals as goal

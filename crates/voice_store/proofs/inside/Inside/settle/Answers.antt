@@ -1,20 +1,14 @@
-use Rattle.std.proofs.Common.{rules, ◌≡◌, ◌⊎◌, inl, inr, ◌++◌, ◌∷◌, [], ℕ, List, Bool, true, false, Option, Some, None, IsTrue, refl, sym, ◌∙◌, ap, subst}
+use Rattle.std.proofs.Common.{rules, ◌≡◌, ◌++◌, ◌∷◌, [], ℕ, List, Bool, false, Some, None, IsTrue, refl, sym, ◌∙◌, ap, subst}
 use Rattle.std.specs.Prelude.{is_none}
-use Rattle.voice_outside.specs.Disk.{Told}
-use Rattle.crash_laws.specs.Standing.{IsHonest, IsLater}
+use Rattle.crash_laws.specs.Standing.{IsLater}
 use Rattle.crash_laws.specs.Calls.{Lands}
 use Rattle.crash_laws.proofs.Landing.{landings_carry}
 use Rattle.next_ropes.specs.Ready.{IsReady}
-use Rattle.recovery.specs.Shown.{Rebuilds}
-use Rattle.recovery.specs.declared.parts.Parts.{Parts}
 use Rattle.voice_journal.specs.Places.{JournalValue}
-use Rattle.voice_model.specs.State.{State}
-use Rattle.voice_model.specs.Replay.{Rebuilt, acted}
 use Rattle.voice_model.specs.declared.calls.Entry.{Entry}
 use Rattle.voice_store.specs.declared.inside.Doubted.{Doubted}
 use Rattle.voice_store.specs.declared.inside.Inside.{Inside}
-use Rattle.voice_store.specs.Stood.{Stood, IsUnsure, last_of, in_form}
-use Rattle.voice_store.specs.Trying.{IsReadyIn}
+use Rattle.voice_store.specs.Stood.{last_of}
 use Rattle.voice_store.specs.Facts.{landing_at}
 use Rattle.voice_store.proofs.Results.{on_ok, on_err}
 use Rattle.voice_store.proofs.Settled.{unsure_by, unsure_of, same_doubted, landed_journal, stood_landed, stood_not_landed, ready_in, shape_of}

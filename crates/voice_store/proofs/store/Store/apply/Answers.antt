@@ -1,5 +1,5 @@
-use Rattle.std.proofs.Common.{◌≡◌, ◌+◌, sym, ◌∙◌, ap, subst}
-use Rattle.voice_store.specs.Shown.{IsWhole, Stands}
+use Rattle.std.proofs.Common.{◌+◌, sym, ◌∙◌, subst}
+use Rattle.voice_store.specs.Shown.{Stands}
 use Rattle.voice_store.specs.Facts.{Goes, most_calls}
 use Rattle.voice_store.proofs.Faults.{covers_answer}
 use Rattle.voice_store.proofs.store.Store.apply.Goals as goal
