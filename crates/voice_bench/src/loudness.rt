@@ -23,8 +23,8 @@ fn samples(alloc: Global) -> Result<Vec<u8>, AllocError> {
     Ok(bytes)
 }
 
-// The sum of the bytes as they are.
-fn plain_sum(bytes: &[u8]) -> u64 {
+/// The sum of the bytes as they are.
+pub fn plain_sum(bytes: &[u8]) -> u64 {
     let mut sum = 0u64;
     for byte in bytes {
         sum = sum.wrapping_add(u64::from(*byte));

@@ -2,12 +2,20 @@
 #![tactic(auto)]
 
 mod appends;
+mod bare;
+mod changes;
+mod compacting;
 mod copying;
+mod editing;
+mod growing;
 mod interests;
 mod loudness;
 mod parsing;
+mod recording;
+mod replaying;
 mod report;
 mod ropes;
+mod stores;
 mod turning;
 
 use std::alloc::AllocError;
@@ -27,6 +35,12 @@ voice_bench MEASUREMENT: prints figures of this machine.
   rows     making and forgetting an interest, by the number of interests
   ropes    putting in, taking out, cutting and sweeping ropes, by the number of ropes
   appends  appends a second in memory and to a file of this folder, against bare calls
+  replay   replay of 16 MiB of changes, against reading their bytes and a look-up for each
+  compact  the base of a state, by the number of ropes
+  record   recording 48 MiB in pieces of 1 MiB in memory, against bare calls
+  edits    300 edits to a file of this folder, against bare calls
+  growth   the last thousand of 20,000 edits in memory, against the first
+  open     opening a store of 20,000 ropes, against reading its journal
   all      each of these
 ";
 
@@ -55,6 +69,32 @@ fn measure<R: Env + Print + Clock + AllocGlobal + Files<File = File> + Threads +
     }
     if all || word == "appends" {
         appends::measure(rt)?;
+    }
+    measure_store(rt, word)
+}
+
+fn measure_store<R: Env + Print + Clock + AllocGlobal + Files<File = File>>(
+    rt: &R,
+    word: &str,
+) -> io::Result<()> {
+    let all = word == "all";
+    if all || word == "replay" {
+        replaying::measure(rt)?;
+    }
+    if all || word == "compact" {
+        compacting::measure(rt)?;
+    }
+    if all || word == "record" {
+        recording::measure(rt)?;
+    }
+    if all || word == "edits" {
+        editing::measure(rt)?;
+    }
+    if all || word == "growth" {
+        growing::measure(rt)?;
+    }
+    if all || word == "open" {
+        growing::measure_opening(rt)?;
     }
     Ok(())
 }

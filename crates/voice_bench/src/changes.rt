@@ -1,0 +1,140 @@
+//! Lists of changes, as a journal has them.
+
+use change_codec::{get, put};
+use std::alloc::Global;
+use voice_journal::Placed;
+use voice_units::NoMemory;
+
+// The samples of a recording, which fill a block.
+const BLOCK: u32 = 4096;
+
+/// What the changes of a list are.
+#[derive(Clone, Copy)]
+pub enum Kind {
+    Moments,
+    Interests,
+    Edits,
+    Mixed,
+}
+
+/// Records, and how many bytes their payloads have.
+#[derive(Drop)]
+pub struct Records {
+    pub list: Vec<Placed>,
+    pub size: u64,
+}
+
+// The first bytes of a change: its kind and a number.
+fn begun(alloc: Global, kind: u8, number: u64) -> Result<Vec<u8>, NoMemory> {
+    let mut bytes = Vec::new(alloc);
+    bytes.push(kind)?;
+    bytes.extend_from_slice(&number.to_be_bytes())?;
+    Ok(bytes)
+}
+
+// A recording of one block, at this address.
+fn recorded(alloc: Global, id: u64, address: u32) -> Result<Vec<u8>, NoMemory> {
+    let mut bytes = begun(alloc, 11, id)?;
+    bytes.extend_from_slice(&BLOCK.to_be_bytes())?;
+    bytes.extend_from_slice(&[0, 0, 0, 1])?;
+    bytes.extend_from_slice(&address.to_be_bytes())?;
+    Ok(bytes)
+}
+
+// A rope of eight samples of a file, from a place on.
+fn edited(alloc: Global, id: u64, file: u64, from: u32) -> Result<Vec<u8>, NoMemory> {
+    let mut bytes = begun(alloc, 2, id)?;
+    bytes.extend_from_slice(&[0, 1])?;
+    bytes.extend_from_slice(&file.to_be_bytes())?;
+    bytes.extend_from_slice(&from.to_be_bytes())?;
+    bytes.extend_from_slice(&[0, 0, 0, 8])?;
+    Ok(bytes)
+}
+
+// The first bytes of a change of a row of class held: its kind, the class and a key of eight bytes.
+fn named(alloc: Global, kind: u8, key: u64) -> Result<Vec<u8>, NoMemory> {
+    let mut bytes = Vec::new(alloc);
+    bytes.extend_from_slice(&[kind, 1, 8])?;
+    bytes.extend_from_slice(&key.to_be_bytes())?;
+    Ok(bytes)
+}
+
+// A row without a note.
+fn retained(alloc: Global, key: u64, rope: u64) -> Result<Vec<u8>, NoMemory> {
+    let mut bytes = named(alloc, 3, key)?;
+    bytes.extend_from_slice(&rope.to_be_bytes())?;
+    bytes.push(0)?;
+    Ok(bytes)
+}
+
+impl Records {
+    fn new(alloc: Global) -> Records {
+        Records {
+            list: Vec::new(alloc),
+            size: 0,
+        }
+    }
+
+    // Adds the change that these bytes spell.
+    fn add(&mut self, alloc: Global, spelling: &[u8]) -> Result<(), NoMemory> {
+        let Ok(change) = get(alloc, spelling) else {
+            return Err(NoMemory);
+        };
+        let mut bytes = Vec::new(alloc);
+        put(&change, &mut bytes)?;
+        self.size = self.size.saturating_add(bytes.len() as u64);
+        let place = self.size;
+        self.list.push(Placed { place, bytes })?;
+        Ok(())
+    }
+
+    // Adds some changes of a kind, the ones of this number, where rope 1 is the recording of a block.
+    fn add_some(&mut self, alloc: Global, kind: Kind, number: u32) -> Result<(), NoMemory> {
+        let moment = u64::from(number) + 1;
+        let next = u64::from(number) + 2;
+        if let Kind::Moments | Kind::Mixed = kind {
+            self.add(alloc, &begun(alloc, 7, moment)?)?;
+        }
+        if let Kind::Interests | Kind::Mixed = kind {
+            self.add(alloc, &retained(alloc, moment, 1)?)?;
+        }
+        if let Kind::Edits | Kind::Mixed = kind {
+            self.add(alloc, &edited(alloc, next, 1, number % 1000)?)?;
+        }
+        if let Kind::Interests | Kind::Mixed = kind {
+            self.add(alloc, &named(alloc, 4, moment)?)?;
+        }
+        Ok(())
+    }
+
+    // Adds the recording of a block, two parts of it, and a row for one of them.
+    fn add_ropes(&mut self, alloc: Global, number: u32) -> Result<(), NoMemory> {
+        let file = 3 * u64::from(number) + 1;
+        self.add(alloc, &recorded(alloc, file, number)?)?;
+        self.add(alloc, &edited(alloc, file + 1, file, 0)?)?;
+        self.add(alloc, &edited(alloc, file + 2, file, 100)?)?;
+        self.add(alloc, &retained(alloc, file, file + 1)?)
+    }
+}
+
+/// Changes of a kind, whose payloads have at least so many bytes.
+pub fn changes_of(alloc: Global, kind: Kind, bytes: u64) -> Result<Records, NoMemory> {
+    let mut records = Records::new(alloc);
+    records.add(alloc, &recorded(alloc, 1, 0)?)?;
+    for number in 0..u32::MAX {
+        if records.size >= bytes {
+            return Ok(records);
+        }
+        records.add_some(alloc, kind, number)?;
+    }
+    Ok(records)
+}
+
+/// Changes that make at least so many ropes, a third of them recordings.
+pub fn changes_to(alloc: Global, ropes: u32) -> Result<Records, NoMemory> {
+    let mut records = Records::new(alloc);
+    for number in 0..ropes.div_ceil(3) {
+        records.add_ropes(alloc, number)?;
+    }
+    Ok(records)
+}

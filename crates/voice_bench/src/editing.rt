@@ -1,0 +1,103 @@
+//! Edits over a real file.
+
+use crate::bare;
+use crate::report::ratio;
+use crate::stores::{bytes_of, edit, shape_of, size_of, store_to_edit};
+use std::alloc::{AllocError, Global};
+use std::fs::{self, File};
+use std::io;
+use std::rt::{Clock, Files};
+use std::time::{Duration, Instant};
+use voice_disk::FileDisk;
+use voice_store::Store;
+use voice_units::{Name, Shape};
+
+const FILE: &str = "voice_bench.disk";
+
+const EDITS: u32 = 300;
+
+const AREA: u32 = 1 << 20;
+
+// Behind the block of the recording.
+const FREE_BLOCKS: u64 = 64 + 2 * (1 << 20) + 4 * 4096;
+
+// What the records of edits take behind their gates, by the number of pieces: a length, the change, and the next gate.
+const OF_ONE_PIECE: u32 = 4 + 27 + 1;
+
+const OF_TWO_PIECES: u32 = 4 + 43 + 1;
+
+fn open_file<R: Files<File = File>>(rt: &R, shape: &Shape) -> io::Result<FileDisk> {
+    let Ok(name) = Name::new(FILE.as_bytes()) else {
+        return Err(io::Error::from(AllocError));
+    };
+    let Ok(disk) = FileDisk::open(rt, &name, size_of(shape)) else {
+        return Err(io::Error::from(AllocError));
+    };
+    Ok(disk)
+}
+
+fn time_edit<R: Clock>(
+    rt: &R,
+    alloc: Global,
+    store: &mut Store<FileDisk>,
+    number: u32,
+) -> io::Result<Duration> {
+    let start = Instant::now(rt)?;
+    edit(alloc, store, number)?;
+    start.elapsed(rt)
+}
+
+fn time_bare<R: Clock>(
+    rt: &R,
+    disk: &mut FileDisk,
+    gate: u64,
+    frame: &[u8],
+) -> io::Result<Duration> {
+    let start = Instant::now(rt)?;
+    bare::append(disk, gate, frame)?;
+    start.elapsed(rt)
+}
+
+// How long edits took, and their calls made bare between them, in the same file where nothing lies.
+fn compare<R: Clock>(
+    rt: &R,
+    alloc: Global,
+    store: &mut Store<FileDisk>,
+    disk: &mut FileDisk,
+) -> io::Result<(Duration, Duration)> {
+    let one = bytes_of(alloc, 0, OF_ONE_PIECE)?;
+    let two = bytes_of(alloc, 0, OF_TWO_PIECES)?;
+    let mut took = Duration::ZERO;
+    let mut bare = Duration::ZERO;
+    let mut gate = FREE_BLOCKS;
+    for k in 0..EDITS {
+        took = took.saturating_add(time_edit(rt, alloc, store, k)?);
+        let frame = if k % 2 == 0 { &one } else { &two };
+        bare = bare.saturating_add(time_bare(rt, disk, gate, frame)?);
+        gate = gate.saturating_add(frame.len() as u64);
+    }
+    Ok((took, bare))
+}
+
+fn compare_in_file<R: Clock + AllocGlobal + Files<File = File>>(
+    rt: &R,
+) -> io::Result<(Duration, Duration)> {
+    let shape = shape_of(4096, 16, AREA)?;
+    let disk = open_file(rt, &shape)?;
+    let mut store = store_to_edit(rt.alloc(), disk, &shape)?;
+    let mut disk = open_file(rt, &shape)?;
+    compare(rt, rt.alloc(), &mut store, &mut disk)
+}
+
+/// Prints what edits over a real file cost beside the same calls of the disk made bare.
+pub fn measure<R: Print + Clock + AllocGlobal + Files<File = File>>(rt: &R) -> io::Result<()> {
+    let compared = compare_in_file(rt);
+    fs::remove_file(rt, FILE)?;
+    let (took, bare) = compared?;
+    ratio(
+        rt,
+        "300 edits over a real file, to their calls of the disk",
+        took,
+        bare,
+    )
+}

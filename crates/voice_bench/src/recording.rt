@@ -1,0 +1,147 @@
+//! Recordings over a disk in memory.
+
+ghost use Rattle.std.specs.Prelude.{◌≡◌};
+
+use crate::bare;
+use crate::report::ratio;
+use crate::stores::{bytes_of, new_store, one_tape, record, shape_of, size_of};
+use std::alloc::{AllocError, Global};
+use std::io::{self, ErrorKind};
+use std::rt::Clock;
+use std::time::{Duration, Instant};
+use voice_disk::MemDisk;
+use voice_model::Tapes;
+use voice_outside::Disk;
+use voice_store::Store;
+use voice_units::{Shape, Take};
+
+const PIECES: u32 = 48;
+
+const PIECE: u32 = 1 << 20;
+
+const AREA: u32 = 1 << 20;
+
+// It divides no piece, so that the last block of each is padded.
+const BLOCK: u32 = 8184;
+
+const BLOCKS_OF_A_PIECE: u32 = 129;
+
+// What the record of a piece takes behind its gate: a length, the change with an address for each block, and the next gate.
+const FRAME: u32 = 4 + 17 + 4 * BLOCKS_OF_A_PIECE + 1;
+
+// A piece of the tape.
+fn take_of(k: u32) -> Take {
+    Take {
+        tape: 0,
+        from: k.wrapping_mul(PIECE),
+        len: PIECE,
+    }
+}
+
+// Puts bytes over the front of a room.
+fn put_front(room: &mut [u8], bytes: &[u8]) {
+    let n = room.len().min(bytes.len());
+    room[..n].copy_from_slice(&bytes[..n]);
+}
+
+// Where the blocks of a piece begin.
+fn blocks_at(k: u32) -> u64 {
+    64 + 2 * u64::from(AREA) + u64::from(k) * u64::from(BLOCKS_OF_A_PIECE * BLOCK)
+}
+
+// The calls of a recording: its whole blocks in one write, the last one padded, and an append.
+fn record_bare<D: Disk>(
+    disk: &mut D,
+    k: u32,
+    samples: &[u8],
+    room: &mut [u8],
+    frame: &[u8],
+) -> io::Result<()> {
+    let at = blocks_at(k);
+    let whole = samples.len() - samples.len() % room.len().max(1);
+    let (front, rest) = samples.split_at(whole);
+    bare::write(disk, at, front)?;
+    if !rest.is_empty() {
+        put_front(room, rest);
+        bare::write(disk, at.saturating_add(whole as u64), room)?;
+    }
+    bare::append(disk, 80 + u64::from(k) * u64::from(FRAME), frame)
+}
+
+// How long a recording of the store took.
+fn time_store<R: Clock>(
+    rt: &R,
+    store: &mut Store<MemDisk>,
+    tapes: &Tapes,
+    take: Take,
+) -> io::Result<Duration>
+    requires { store.old.tapes ≡ tapes.now }
+    ensures { store.new.tapes ≡ store.old.tapes }
+{
+    let start = Instant::now(rt)?;
+    record(store, tapes, take)?;
+    start.elapsed(rt)
+}
+
+// How long the same calls took.
+fn time_bare<R: Clock>(
+    rt: &R,
+    disk: &mut MemDisk,
+    tapes: &Tapes,
+    k: u32,
+    room: &mut [u8],
+    frame: &[u8],
+) -> io::Result<Duration> {
+    let take = take_of(k);
+    if !tapes.has(take) {
+        return Err(io::Error::from(ErrorKind::InvalidInput));
+    }
+    let samples = tapes.samples(take);
+    let start = Instant::now(rt)?;
+    record_bare(disk, k, samples, room, frame)?;
+    start.elapsed(rt)
+}
+
+// How long all recordings took, and the same calls between them, of another disk.
+fn compare<R: Clock>(
+    rt: &R,
+    alloc: Global,
+    store: &mut Store<MemDisk>,
+    disk: &mut MemDisk,
+    tapes: &Tapes,
+) -> io::Result<(Duration, Duration)>
+    requires { store.old.tapes ≡ tapes.now }
+{
+    let mut room = bytes_of(alloc, 0, BLOCK)?;
+    let frame = bytes_of(alloc, 0, FRAME)?;
+    let mut took = Duration::ZERO;
+    let mut bare = Duration::ZERO;
+    for k in 0..PIECES {
+        took = took.saturating_add(time_store(rt, store, tapes, take_of(k))?);
+        bare = bare.saturating_add(time_bare(rt, disk, tapes, k, &mut room, &frame)?);
+    }
+    Ok((took, bare))
+}
+
+fn new_disk(alloc: Global, shape: &Shape) -> io::Result<MemDisk> {
+    match MemDisk::new(alloc, size_of(shape), Vec::new(alloc)) {
+        Ok(disk) => Ok(disk),
+        Err(_) => Err(io::Error::from(AllocError)),
+    }
+}
+
+/// Prints what recording 48 MiB in pieces of 1 MiB costs beside the same calls of a disk made bare.
+pub fn measure<R: Print + Clock + AllocGlobal>(rt: &R) -> io::Result<()> {
+    let alloc = rt.alloc();
+    let shape = shape_of(BLOCK, PIECES * BLOCKS_OF_A_PIECE, AREA)?;
+    let tapes = one_tape(alloc, PIECES * PIECE)?;
+    let mut store = new_store(alloc, new_disk(alloc, &shape)?, &shape, &tapes)?;
+    let mut disk = new_disk(alloc, &shape)?;
+    let (took, bare) = compare(rt, alloc, &mut store, &mut disk, &tapes)?;
+    ratio(
+        rt,
+        "recording 48 MiB in pieces of 1 MiB, to its calls of the disk",
+        took,
+        bare,
+    )
+}
