@@ -1,65 +1,59 @@
-//! The store's own calls: the blocks that are free, also while a change is in doubt, its room, its shape and its tables.
+//! The store's own calls: its room, its free blocks, its shape and its tables.
 
-ghost use Rattle.std.specs.Prelude.{◌≡◌};
+ghost use Rattle.std.specs.Prelude.{◌≡◌, IfOk};
+ghost use Rattle.std.specs.Arc.{arc_value};
 
 use crate::runs::{F20, small_disk};
+use std::alloc::Global;
 use std::sync::Arc;
 use std::test::Fail;
+use voice_disk::MemDisk;
 use voice_model::{Call, Reply, Tapes};
 use voice_outside::Disk;
 use voice_store::Store;
-use voice_units::{RopeId, Take};
+use voice_units::RopeId;
 
-// All of `f20`, which is the only tape.
-const F20_TAKE: Take = Take {
-    tape: 0,
-    from: 0,
-    len: 20,
-};
-
-// Records a take of these tapes, and gives the rope that came, and how many blocks are free then.
-fn record<D: Disk>(
-    store: &mut Store<D>,
-    tapes: &Tapes,
-    take: Take,
-) -> Result<(Option<RopeId>, u32), Fail>
-    requires { store.old.tapes ≡ tapes.now }
-    ensures { store.new.tapes ≡ store.old.tapes }
-{
-    if !tapes.has(take) {
-        return Err(Fail::new("no such take"));
+fn one_tape(alloc: Global) -> Result<Arc<Tapes, Global>, Fail> {
+    let mut files = Vec::new(alloc);
+    files.push(F20.to_vec(alloc)?)?;
+    match Arc::new(alloc, Tapes::new(files)) {
+        Ok(tapes) => Ok(tapes),
+        Err(_) => Err(Fail::new("no memory")),
     }
-    let rope = match store.apply(1, Call::Record(take))? {
-        Reply::Rope(id, _) => Some(id),
-        _ => None,
+}
+
+// The store of a small disk.
+fn open(alloc: Global, tapes: &Arc<Tapes, Global>) -> Result<Store<MemDisk>, Fail>
+    ensures { IfOk result (λ store. store.tapes ≡ arc_value tapes.now) }
+{
+    let disk = small_disk(alloc, 2, &[])?;
+    let Ok(shared) = Arc::try_clone(tapes) else {
+        return Err(Fail::new("no memory"));
     };
-    Ok((rope, store.free()))
+    match Store::open(alloc, disk, shared) {
+        Ok(store) => Ok(store),
+        Err(_) => Err(Fail::new("the disk is refused")),
+    }
+}
+
+// The length of a rope, 0 where it is not told. There is room for the entry.
+fn length<D: Disk>(store: &mut Store<D>, rope: RopeId) -> Result<u64, Fail> {
+    store.reserve(2)?;
+    match store.apply(1, Call::Length(rope))? {
+        Reply::Number(n) => Ok(n),
+        _ => Ok(0),
+    }
 }
 
 #[test]
-fn blocks_of_a_change_in_doubt_are_not_free(rt: HostRuntime) -> Result<(), Fail> {
-    // Formatting makes the calls 1 to 3, opening 4 to 8, each recording 6.
-    let disk = small_disk(rt.alloc(), 2, &[20])?;
-    let mut files = Vec::new(rt.alloc());
-    files.push(F20.to_vec(rt.alloc())?)?;
-    let Ok(tapes) = Arc::new(rt.alloc(), Tapes::new(files)) else {
-        return Err(Fail::new("no memory"));
-    };
-    let Ok(mut store) = Store::open(rt.alloc(), disk, tapes.clone()?) else {
-        return Err(Fail::new("the disk is refused"));
-    };
-    assert_eq!(rt; store.free(), 16);
-    let wanted = [(Some(RopeId(1)), 13), (None, 10), (Some(RopeId(3)), 7)];
-    for answer in wanted {
-        assert_eq!(rt; record(&mut store, &tapes, F20_TAKE)?, answer);
-    }
-    store.reserve(2)?;
-    let Reply::Number(20) = store.apply(1, Call::Length(RopeId(2)))? else {
-        return Err(Fail::new("another length"));
-    };
-    assert_eq!(rt; (store.shape().blocks, store.lanes()), (16, 4));
-    assert_eq!(rt; store.parts().ropes.count(), 3);
+fn a_new_store_is_empty(rt: HostRuntime) -> Result<(), Fail> {
+    let tapes = one_tape(rt.alloc())?;
+    let mut store = open(rt.alloc(), &tapes)?;
+    assert_eq!(rt; length(&mut store, RopeId(1))?, 0);
+    let sizes = (store.free(), store.shape().blocks, store.lanes());
+    assert_eq!(rt; sizes, (16, 16, 4));
+    assert_eq!(rt; store.parts().ropes.count(), 0);
     let (_disk, history) = store.close();
-    assert_eq!(rt; history.len(), 5);
+    assert_eq!(rt; history.len(), 1);
     Ok(())
 }
