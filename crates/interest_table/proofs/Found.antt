@@ -1,9 +1,7 @@
 -- Rows are found by class and key.
-use Rattle.std.proofs.Common.{◌≡◌, ℕ, ◌<◌, List, [], ◌∷◌, map, ap, ap₂, ◌∙◌, sym, refl, cond, Bool, true, false, ◌&&◌, ◌==◌, Option, Some, None, subst, eq-eqb, eqb, ◌-◌, ◌++◌, length, take, replicate, ◌+◌, ◌≤◌, suc, arith}
-use Rattle.std.proofs.lemmas.Bool.{eqb-true}
+use Rattle.std.proofs.Common.{◌≡◌, ℕ, ◌<◌, List, [], ◌∷◌, map, ap, ap₂, ◌∙◌, sym, refl, cond, Bool, true, false, ◌&&◌, ◌==◌, Option, Some, None, subst, ◌-◌, length, ◌+◌, ◌≤◌, suc, arith}
+use Rattle.std.proofs.lemmas.Bool.{eqb-true, and_parts}
 use Rattle.std.specs.Prelude.{bytes_eq, not, filter}
-use lib.Pointwise.{pointwise}
-use Rattle.std.proofs.Math.Seq.{take-append_seam}
 use Rattle.std.specs.Map.{lookup, remove_entry}
 use Rattle.std.specs.Cmp.Lexicographic.{same_text}
 use Rattle.std.proofs.lemmas.Cmp.{nat_list_eq_equiv}
@@ -13,8 +11,6 @@ use Rattle.voice_model.specs.declared.calls.Class.{Class}
 use Rattle.voice_model.specs.declared.calls.Class.TheVariants.{Held, Until, Listed}
 use Rattle.interest_table.specs.declared.rows.RowName.{RowName}
 use Rattle.interest_table.specs.contracts.rows.RowNamePartialEq.TheImpl as eq_impl
-use Rattle.voice_model.specs.contracts.texts.KeyPartialEq.TheImpl as key_impl
-use Rattle.std.specs.List.{list_any}
 use Rattle.std.specs.Prelude.{unwrap_or, nat_eq, is_ok, OnOk, Result, Ok, Err}
 use Rattle.std.proofs.Common.{◌^◌}
 use Rattle.indexmap.specs.IndexMap as index
@@ -32,47 +28,21 @@ both_ways true b f g = sym (f refl)
 both_ways false true f g = g refl
 both_ways false false f g = refl
 
-and_parts : (p q : Bool) → (p && q) ≡ true → (p ≡ true) × (q ≡ true)
-and_parts true q h = (refl, h)
-and_parts false q h = cc
-
--- keys in place are equal where their bytes are
-same_keys : (x y : List ℕ) → (pointwise eqb (x ++ replicate (64 - length x) 0) (y ++ replicate (64 - length y) 0) && eqb (length x) (length y)) ≡ bytes_eq y x
-same_keys x y = both_ways _ _
-    (λ h.
-    let parts = and_parts _ _ h in
-    let long : length x ≡ length y = eqb-true (length x) (length y) parts.1 in
-    let all : x ++ replicate (64 - length x) 0 ≡ y ++ replicate (64 - length y) 0 = same_text _ _ (sym parts.0) in
-    let same : x ≡ y = sym (take-append_seam x (replicate (64 - length x) 0)) ∙ ap (take (length x)) all ∙ ap (λ n. take n (y ++ replicate (64 - length y) 0)) long ∙ take-append_seam y (replicate (64 - length y) 0) in
-    ap (bytes_eq y) same ∙ nat_list_eq_equiv.refl y)
-    (λ h.
-    let same : y ≡ x = same_text y x (sym h) in
-    let whole : (pointwise eqb (x ++ replicate (64 - length x) 0) (x ++ replicate (64 - length x) 0) && eqb (length x) (length x)) ≡ true = ap₂ (λ a b. a && b) (nat_list_eq_equiv.refl (x ++ replicate (64 - length x) 0)) (eq-eqb (length x) (length x) refl) in
-    ap (λ l. pointwise eqb (x ++ replicate (64 - length x) 0) (l ++ replicate (64 - length l) 0) && eqb (length x) (length l)) same ∙ whole)
-
-turned : (x y : List ℕ) → bytes_eq y x ≡ bytes_eq x y
+turned : (x y : List ℕ) → bytes_eq x y ≡ bytes_eq y x
 turned x y = both_ways _ _
-    (λ h. let same : y ≡ x = same_text y x (sym h) in ap (bytes_eq x) same ∙ nat_list_eq_equiv.refl x)
     (λ h. let same : x ≡ y = same_text x y (sym h) in ap (bytes_eq y) same ∙ nat_list_eq_equiv.refl y)
-
--- the comparison of keys, as derived
-abbrev pub same_key : List ℕ → List ℕ → Bool
-same_key = (key_impl.ghosts).eq
-
--- a key equal to this one is in the list exactly where its bytes are
-pub any_same_key : (key : List ℕ) (keys : List (List ℕ)) → list_any (same_key key) keys ≡ list_any (bytes_eq key) keys
-any_same_key key keys = λ i. list_any (λ other. (same_keys key other ∙ turned key other) i) keys
+    (λ h. let same : y ≡ x = same_text y x (sym h) in ap (bytes_eq x) same ∙ nat_list_eq_equiv.refl x)
 
 same_names : (a b : Class) (x y : List ℕ) → same_name (record { class = a; key = x }) (record { class = b; key = y }) ≡ ((class_number b == class_number a) && bytes_eq y x)
-same_names Held Held x y = same_keys x y
+same_names Held Held x y = turned x y
 same_names Held Until x y = refl
 same_names Held Listed x y = refl
 same_names Until Held x y = refl
-same_names Until Until x y = same_keys x y
+same_names Until Until x y = turned x y
 same_names Until Listed x y = refl
 same_names Listed Held x y = refl
 same_names Listed Until x y = refl
-same_names Listed Listed x y = same_keys x y
+same_names Listed Listed x y = turned x y
 
 pub tested : (class : Class) (key : List ℕ) (row : Row) → same_name (record { class = class; key = key }) (name_of row) ≡ is_row class key row
 tested class key row = same_names class row.class key row.key

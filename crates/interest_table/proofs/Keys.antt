@@ -9,7 +9,6 @@ use Rattle.std.specs.HashSet as bag
 use Rattle.voice_model.specs.State.{class_number}
 use Rattle.voice_model.specs.Changes.{unlisted_keys}
 use Rattle.voice_model.specs.declared.calls.Row.{Row}
-use Rattle.interest_table.proofs.Found.{same_key, any_same_key}
 
 -- ---- the number that bytes spell
 
@@ -66,8 +65,8 @@ none_left test n left keys all e so_far = sym (append-nil keys) ∙ ap (λ l. ke
 -- ---- a census
 
 -- a set that was collected from keys has them
-pub named_by : {S E : Type 0} (r : Result (bag.HashSet (List ℕ) S) E) (keys : List (List ℕ)) → IfOk r (bag.IsFromIterResult same_key keys) → IfOk r (λ named. (key : List ℕ) → list_any (bytes_eq key) named.keys ≡ list_any (bytes_eq key) keys)
-named_by (Ok named) keys h = λ key. sym (any_same_key key named.keys) ∙ h.0 key ∙ any_same_key key keys
+pub named_by : {S E : Type 0} (r : Result (bag.HashSet (List ℕ) S) E) (keys : List (List ℕ)) → IfOk r (bag.IsFromIterResult bytes_eq keys) → IfOk r (λ named. (key : List ℕ) → list_any (bytes_eq key) named.keys ≡ list_any (bytes_eq key) keys)
+named_by (Ok named) keys h = h.0
 named_by (Err e) keys h = h
 
 -- a census drops the same rows as another that names the same keys

@@ -3,11 +3,12 @@
 ghost use Rattle.std.specs.Prelude.{◌≡◌, ℕ, ◌+◌, ◌≤◌, ◌<◌, ◌↔◌, List, length, take, IsOk, IfOk, IfErr};
 ghost use Rattle.voice_units.specs.InPlace.{filled};
 
+use std::hash::{Hash, Hasher};
 use std::marker::Model;
 use voice_units::{TextError, filled_array};
 
 /// The key of an interest, 1 to 64 bytes. Contracts see the list of its bytes.
-#[derive(Clone, Copy, Debug, PartialEq, Eq, Hash)]
+#[derive(Clone, Copy, Debug)]
 pub struct Key {
     bytes: [u8; 64],
     len: u8,
@@ -27,6 +28,41 @@ impl Model for Key {
     ghost inverse = { λ bytes. record { bytes = filled 64 bytes; len = length bytes } };
 
     ghost inverse_ok = { λ k h. λ i. record { bytes = filled_again 1 64 k.bytes k.len h i; len = filled_length 1 64 k.bytes k.len h i } };
+}
+
+// By its bytes alone: short keys are compared and hashed without the room behind them.
+impl PartialEq for Key {
+    ghost use Rattle.std.specs.Str.{bytes_eq};
+    ghost use Rattle.std.specs.Cmp.{partial_equiv_from_equiv};
+    ghost use Rattle.std.proofs.lemmas.Cmp.{nat_list_eq_equiv};
+
+    ghost eq = { bytes_eq };
+
+    ghost laws = { partial_equiv_from_equiv nat_list_eq_equiv };
+
+    fn eq(&self, other: &Key) -> bool {
+        self.bytes() == other.bytes()
+    }
+}
+
+impl Eq for Key {
+    ghost use Rattle.std.proofs.lemmas.Cmp.{nat_list_eq_equiv};
+
+    ghost laws = { nat_list_eq_equiv };
+}
+
+impl Hash for Key {
+    ghost use Rattle.std.specs.Prelude.{List, ℕ, [], ◌∷◌};
+    ghost use Rattle.std.proofs.Common.{ap};
+    ghost use Rattle.std.proofs.lemmas.Slice.Eq.{bytes_eq-Decides};
+
+    ghost hash_input = { λ key. key ∷ [] };
+
+    ghost respects_eq = { λ x y h. ap (λ key. key ∷ []) ((bytes_eq-Decides x y).0 h) };
+
+    fn hash<H: Hasher>(&self, state: &mut H) {
+        state.write(self.bytes());
+    }
 }
 
 /// The note of an interest, at most 128 bytes. Contracts see the list of its bytes.

@@ -2,7 +2,6 @@ use Rattle.std.proofs.Common.{◌≡◌, ◌==◌, ◌&&◌, not, ap, ◌∙◌,
 use Rattle.std.specs.List.{list_any}
 use Rattle.std.specs.Prelude.{bytes_eq}
 use Rattle.voice_model.specs.State.{class_number}
-use Rattle.interest_table.proofs.Found.{any_same_key}
 use Rattle.interest_table.proofs.going.is_absent.Goals as goal
 use Rattle.interest_table.proofs.going.is_absent.Goals.{in-Listed, in_default}
 
@@ -11,5 +10,5 @@ is_listed c = elim c.match-matches.branch [ in-Listed w ↦ ap (λ k. class_numb
 
 pub returns-then-matches : goal.returns-then-matches
 returns-then-matches c =
-    ap not (c.contains.ensures ∙ any_same_key c.args.row.now.key c.args.named.now.keys)
+    ap not c.contains.ensures
     ∙ sym (ap (λ b. b && not (list_any (bytes_eq c.args.row.now.key) c.args.named.now.keys)) (is_listed c))
