@@ -1,5 +1,5 @@
 -- Ropes in rising number, and the order in which they are due.
-use Rattle.std.proofs.Common.{◌≡◌, ℕ, suc, ◌<◌, ◌≤◌, List, [], ◌∷◌, map, Bool, true, false, not, ◌==◌, cond, nat_lt, Option, Some, None, refl, sym, ◌∙◌, ap, arith}
+use Rattle.std.proofs.Common.{◌≡◌, ℕ, suc, ◌<◌, ◌≤◌, List, [], ◌∷◌, map, Bool, true, false, not, ◌==◌, cond, nat_lt, Option, Some, None, refl, sym, ◌∙◌, ap, ap₂, arith}
 use Rattle.std.proofs.lemmas.Bool.{ltb-true, ltb-false, leb-true, lt-ltb, le-ltb, le-leb, lt-leb, ne_eqb}
 use Rattle.std.proofs.lemmas.Bool.Decides.{nat_tests}
 use Rattle.rope_table.specs.declared.dues.Due.{Due}
@@ -20,6 +20,12 @@ sooner_apart x y h = grind (arith, nat_tests)
 
 pub due_down : (at id : ℕ) (x y : Due) → is_sooner x y ≡ true → is_due_before at id y ≡ true → is_due_before at id x ≡ true
 due_down at id x y h k = grind (arith, nat_tests)
+
+pub before_it : (at id : ℕ) (x y : Due) → x.at ≡ at → x.id ≡ id → is_sooner y x ≡ true → is_due_before at id y ≡ true
+before_it at id x y when is h = ap₂ (λ m n. is_due_before m n y) (sym when) (sym is) ∙ h
+
+pub not_behind_it : (at id : ℕ) (x y : Due) → x.at ≡ at → x.id ≡ id → is_sooner x y ≡ true → is_due_before at id y ≡ false
+not_behind_it at id x y when is h = ap₂ (λ m n. is_due_before m n y) (sym when) (sym is) ∙ grind (arith, nat_tests)
 
 -- ---- ropes
 

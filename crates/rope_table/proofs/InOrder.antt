@@ -1,6 +1,7 @@
 -- Lists in order: where an element belongs, and what is left as it goes.
-use Rattle.std.proofs.Common.{◌≡◌, ℕ, zero, suc, ◌<◌, ◌≤◌, List, [], ◌∷◌, length, get_or, Bool, true, false, not, cond, refl, sym, ◌∙◌, ap, arith}
+use Rattle.std.proofs.Common.{◌≡◌, ℕ, zero, suc, ◌-◌, ◌<◌, ◌≤◌, List, [], ◌∷◌, length, get_or, Bool, true, false, not, cond, refl, sym, ◌∙◌, ap, subst, eq-or-lt_of_le, inl, inr, arith}
 use Rattle.std.proofs.lemmas.Bool.{cond_both, false≢true}
+use Rattle.std.proofs.lemmas.List.{get_or_read_under}
 use Rattle.std.specs.List.{insert, remove}
 use Rattle.std.specs.List.Sorted.{IsPartitionPoint, IsPartitionedBy}
 use Rattle.rope_table.specs.Table.{Every, IsInOrder, put_in}
@@ -162,3 +163,29 @@ partitioned_at comes test down x xs order rest (suc i) (suc j) d le within e = r
 pub partitioned : {A : Type 0} (comes : A → A → Bool) (test : A → Bool) → ((x y : A) → comes x y ≡ true → test y ≡ true → test x ≡ true) → (xs : List A) → IsInOrder comes xs → IsPartitionedBy test xs
 partitioned comes test down [] order = λ i j d le within e. absurd (omega arith)
 partitioned comes test down (x ∷ xs) order = partitioned_at comes test down x xs order (partitioned comes test down xs order.1)
+
+-- where the last element passes, all of them do
+pub place_behind : {A : Type 0} (comes : A → A → Bool) (test : A → Bool) → ((x y : A) → comes x y ≡ true → test y ≡ true → test x ≡ true) → (xs : List A) (n : ℕ) (x : A) → IsInOrder comes xs → n ≡ length xs → 0 < n → x ≡ get_or xs (n - 1) x → test x ≡ true → n ≡ place_of test xs
+place_behind comes test down xs n x order count some read passes = at_partition test xs n (omega (arith, count))
+    (λ k d low high. partitioned comes test down xs order k (n - 1) d (omega (arith, high)) (omega (arith, count, some)) (ap test (sym (get_or_read_under xs (n - 1) n x d read (omega (arith, some)) count)) ∙ passes), λ k d low high. absurd (omega (arith, count, low, high)))
+
+-- of two places the front one has what comes first
+pub in_order_at : {A : Type 0} (comes : A → A → Bool) (xs : List A) (j k : ℕ) (d : A) → IsInOrder comes xs → j < k → k < length xs → comes (get_or xs j d) (get_or xs k d) ≡ true
+in_order_at comes [] j k d order less within = absurd (omega arith)
+in_order_at comes (x ∷ xs) zero zero d order less within = absurd (omega arith)
+in_order_at comes (x ∷ xs) zero (suc k) d order less within = every_at (λ y. comes x y ≡ true) xs k d order.0 (omega arith)
+in_order_at comes (x ∷ xs) (suc j) zero d order less within = absurd (omega arith)
+in_order_at comes (x ∷ xs) (suc j) (suc k) d order less within = in_order_at comes xs j k d order.1 (omega arith) (omega arith)
+
+split_le : (i k : ℕ) (P : ℕ → Type 0) → i ≤ k → P i → (i < k → P k) → P k
+split_le i k P low here later = elim (eq-or-lt_of_le low) [ inl same ↦ subst P same here | inr less ↦ later less ]
+
+-- an element that fails stands where those end that pass, if just those before it pass
+pub place_at : {A : Type 0} (comes : A → A → Bool) (test : A → Bool) (xs : List A) (i n : ℕ) (x : A) → IsInOrder comes xs → n ≡ length xs → i < n → x ≡ get_or xs i x → test x ≡ false
+    → ((y : A) → comes y x ≡ true → test y ≡ true) → ((y : A) → comes x y ≡ true → test y ≡ false) → i ≡ place_of test xs
+place_at comes test xs i n x order count within read fails before behind = at_partition test xs i (omega (arith, count, within)) (
+  λ k d low high. let at : x ≡ get_or xs i d = get_or_read_under xs i n x d read within count in
+      before (get_or xs k d) (subst (λ y. comes (get_or xs k d) y ≡ true) (sym at) (in_order_at comes xs k i d order high (omega (arith, count, within)))),
+  λ k d low high. let at : x ≡ get_or xs i d = get_or_read_under xs i n x d read within count in
+      split_le i k (λ m. test (get_or xs m d) ≡ false) low (ap test (sym at) ∙ fails) (λ less. behind (get_or xs k d) (subst (λ y. comes y (get_or xs k d) ≡ true) (sym at) (in_order_at comes xs i k d order less high))),
+)

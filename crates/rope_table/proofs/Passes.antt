@@ -1,5 +1,5 @@
 -- What a pass over blocks does to their counts.
-use Rattle.std.proofs.Common.{◌≡◌, ◌+◌, ◌<◌, ◌≤◌, List, Bool, true, false, not, ◌||◌, ◌==◌, cond, Option, Some, None, unwrap_or, refl, sym, ◌∙◌, ap, subst, arith}
+use Rattle.std.proofs.Common.{◌≡◌, ℕ, ◌+◌, ◌<◌, ◌≤◌, List, Bool, true, false, not, ◌||◌, ◌==◌, cond, if◌then◌else◌, Option, Some, None, unwrap_or, refl, sym, ◌∙◌, ap, subst, arith}
 use Rattle.std.proofs.lemmas.Bool.{false≢true, eq-eqb}
 use Rattle.std.specs.Prelude.{is_some}
 use Rattle.voice_units.specs.Blocks.{BlockPair, has_pair, same_pair}
@@ -42,6 +42,18 @@ not_entered counts p e = none (found_in counts.counts p) e
 pub missing_unused : (counts : Tallied) (ps : List BlockPair) → missing counts ps ≤ unused (uses_counted counts.counts) ps
 missing_unused counts ps = fewer_pass (λ q. not (is_entered counts q)) (λ q. uses_counted counts.counts q == 0) ps
     (λ q e. let none = not_entered counts q (not_true (is_entered counts q) e) in eq-eqb _ 0 (ap (λ (c : Count). c.uses) none))
+
+-- a block without a count is one of those without a use
+pub one_unused : (counts : Tallied) (ps : List BlockPair) (p : BlockPair) → has_pair ps p ≡ true → is_entered counts p ≡ false → 1 ≤ unused (uses_counted counts.counts) ps
+one_unused counts ps p has absent =
+    let some = no_more_missing ps p (is_entered counts) has absent in
+    let most = missing_unused counts ps in
+    omega (arith, some, most)
+
+pub once_unused : (counts : Tallied) (ps : List BlockPair) (p : BlockPair) → has_pair ps p ≡ true → (if is_entered counts p then 0 else 1) ≤ unused (uses_counted counts.counts) ps
+once_unused counts ps p has = split (is_entered counts p)
+    (λ e. let none = ap {B = ℕ} (λ b. if b then 0 else 1) e in omega (arith, none))
+    (λ e. let one = ap {B = ℕ} (λ b. if b then 0 else 1) e in let some = one_unused counts ps p has e in omega (arith, one, some))
 
 module _ (live : Bool) where
   -- ---- before a block is met

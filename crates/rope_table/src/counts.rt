@@ -1,12 +1,12 @@
 //! How many live ropes and held passages use each block, and how many blocks live ropes use.
 
-ghost use Rattle.std.specs.Prelude.{◌≡◌, ℕ, ◌+◌, ◌^◌, ◌<◌, ◌≤◌, true, false, List, length, IfOk, OnOk, if◌then◌else◌, ◌||◌, cond, nat_lt, unwrap_or};
+ghost use Rattle.std.specs.Prelude.{◌≡◌, ℕ, ◌+◌, ◌^◌, ◌<◌, ◌≤◌, true, false, List, length, IfOk, OnOk, IfSome, if◌then◌else◌, ◌||◌, cond, nat_lt, unwrap_or};
 ghost use Rattle.std.specs.HashMap.{spare};
 ghost use Rattle.std.specs.List.{sum_by};
 ghost use Rattle.voice_units.specs.Spots.{spots_of};
 ghost use Rattle.voice_units.specs.Blocks.{BlockPair, pairs_at, has_pair, same_pair, distinct};
 ghost use Rattle.rope_table.specs.Table.{uses_by, pair_of, unused, uses_counted, live_counted, files_of, no_count, count_of};
-ghost use Rattle.rope_table.specs.Inside.{count_in, found_in, is_entered, entered_in, pair_named, touched, missing, needed, entries_made, is_live, weight_found};
+ghost use Rattle.rope_table.specs.Inside.{count_in, found_in, is_entered, entered_in, pair_named, touched, used_again, missing, needed, entries_made, is_live, weight_found};
 ghost use Rattle.rope_table.specs.declared.counts.BlockName.{BlockName};
 ghost use Rattle.rope_table.specs.declared.counts.Count.{Count};
 ghost use Rattle.rope_table.specs.declared.counts.Pass.TheVariants as pass_is;
@@ -322,6 +322,47 @@ fn touch_all(tally: &mut Tally, block: u32, pieces: &Pieces, live: bool, pass: P
     }
 }
 
+// The block of pieces that lie in one, of one piece: its count needs no mark.
+fn only_block(pieces: &Pieces, block: u32) -> Option<BlockName>
+    requires { 0 < block }
+    ensures { IfSome result (λ name. (pair : BlockPair) → has_pair (pairs_at block (spots_of pieces.now)) pair ≡ same_pair (pair_named name) pair) }
+{
+    let _length = pieces.length();
+    if pieces.count() != 1 {
+        return None;
+    }
+    let Some(piece) = pieces.piece(0) else {
+        return None;
+    };
+    let file = piece.file;
+    let index = piece.from / block;
+    if (piece.from + piece.len - 1) / block != index {
+        return None;
+    }
+    Some(BlockName { file, index })
+}
+
+// One more use of a block, which is not marked.
+fn raise_alone(tally: &mut Tally, name: BlockName, live: bool)
+    requires room { is_entered tally.old (pair_named name) ≡ false → 0 < tally.old.spare }
+    requires fits { (count_in tally.old (pair_named name)).uses + 1 < 2 ^ 32 }
+    requires live_fits { (count_in tally.old (pair_named name)).live + 1 < 2 ^ 32 }
+    ensures counts { (pair : BlockPair) → count_in tally.new pair ≡ cond (same_pair (pair_named name) pair) (used_again live (count_in tally.old pair)) (count_in tally.old pair) }
+    ensures spare { tally.old.spare ≤ tally.new.spare + (if is_entered tally.old (pair_named name) then 0 else 1) }
+{
+    let count = tally.get(&name);
+    let uses = count.map_or(0, |count| count.uses);
+    let lives = count.map_or(0, |count| count.live);
+    tally.put(
+        name,
+        Count {
+            uses: uses + 1,
+            live: lives + u32::from(live),
+            marked: false,
+        },
+    );
+}
+
 impl UseCounts {
     /// No uses, for blocks of so many samples. It takes no memory.
     pub(crate) fn new(alloc: Global, block: u32) -> UseCounts
@@ -401,6 +442,10 @@ impl UseCounts {
         ensures live { (pair : BlockPair) → live_counted self.new.counts pair ≡ live_counted self.old.counts pair + cond live (uses_by self.old.block pieces.now pair) 0 }
         ensures spare { self.old.spare ≤ self.new.spare + unused (uses_counted self.old.counts) (pairs_at self.old.block (spots_of pieces.now)) }
     {
+        if let Some(name) = only_block(pieces, self.block) {
+            raise_alone(&mut self.tally, name, live);
+            return;
+        }
         touch_all(&mut self.tally, self.block, pieces, live, Pass::Raise);
         touch_all(&mut self.tally, self.block, pieces, live, Pass::Settle);
     }

@@ -1,6 +1,6 @@
 //! The order in which ropes are due.
 
-ghost use Rattle.std.specs.Prelude.{◌≡◌, ◌<◌, ◌≤◌, [], List, not, IfOk, OnOk, option_map, slice_get, length};
+ghost use Rattle.std.specs.Prelude.{◌≡◌, ◌<◌, ◌≤◌, [], List, not, IfOk, OnOk, IfSome, option_map, slice_get, length};
 ghost use Rattle.std.specs.VecDeque.{deque_capacity};
 ghost use Rattle.rope_table.specs.Table.{as_pair, with_due, is_sooner, Every, IsInOrder};
 ghost use Rattle.rope_table.specs.declared.dues.Due.{Due};
@@ -36,12 +36,41 @@ impl Model for DueOrder {
     ghost invariant = { λ d. IsInOrder is_sooner d.dues.items };
 }
 
+/// Whether one is due before this moment and number.
+fn is_before(due: &Due, at: u64, id: u64) -> bool
+    ensures { result ≡ is_due_before at id due.now }
+{
+    due.at < at || (due.at == at && due.id.number() < id)
+}
+
+/// How many are due before a rope, where that is seen at the last one: a rope that has just become idle is mostly due last.
+fn place_at_end(dues: &VecDeque<Due>, at: u64, id: u64) -> Option<usize>
+    requires { IsInOrder is_sooner dues.now.items }
+    ensures { IfSome result (λ i. i ≡ place_of (is_due_before at id) dues.now.items) }
+{
+    let count = dues.len();
+    if count == 0 {
+        return None;
+    }
+    let last = &dues[count - 1];
+    if is_before(last, at, id) {
+        return Some(count);
+    }
+    if last.at == at && last.id.number() == id {
+        return Some(count - 1);
+    }
+    None
+}
+
 /// How many are due before a rope.
 fn place(dues: &VecDeque<Due>, at: u64, id: u64) -> usize
     requires { IsInOrder is_sooner dues.now.items }
     ensures { result ≡ place_of (is_due_before at id) dues.now.items }
 {
-    dues.partition_point(|due| due.at < at || (due.at == at && due.id.number() < id))
+    if let Some(place) = place_at_end(dues, at, id) {
+        return place;
+    }
+    dues.partition_point(|due| is_before(due, at, id))
 }
 
 /// The same list, with room for n in all.

@@ -145,6 +145,9 @@ impl FileCounts {
         ensures live { (f : ℕ) → (file_of self.new.files f).live + cond (file == f) (once was) 0 ≡ (file_of self.old.files f).live + cond (file == f) (once is) 0 }
         ensures spare { self.old.spare ≤ self.new.spare + (if is_filed self.old.files file then 0 else 1) }
     {
+        if !entered && was == is {
+            return;
+        }
         let before = self.get(file);
         let after = FileCount {
             counted: before.counted + u64::from(entered),

@@ -47,11 +47,37 @@ impl Model for LiveRopes {
     ghost invariant = { λ r. AreLive r.ropes.items r.pieces };
 }
 
+/// How many ropes have a number below this one, where that takes no search: it is above the last one, or the numbers from it to the last one stand without a gap.
+fn place_at_end(ropes: &VecDeque<Rope>, id: u64) -> Option<usize>
+    requires { IsInOrder is_lower ropes.now.items }
+    ensures { IfSome result (λ i. i ≡ place_of (lies_below id) ropes.now.items) }
+{
+    let count = ropes.len();
+    if count == 0 {
+        return None;
+    }
+    let last = ropes[count - 1].id.number();
+    if last < id {
+        return Some(count);
+    }
+    if last - id >= count as u64 {
+        return None;
+    }
+    let place = count - 1 - (last - id) as usize;
+    if ropes[place].id.number() == id {
+        return Some(place);
+    }
+    None
+}
+
 /// How many ropes have a number below this one.
 fn place(ropes: &VecDeque<Rope>, id: u64) -> usize
     requires { IsInOrder is_lower ropes.now.items }
     ensures { result ≡ place_of (lies_below id) ropes.now.items }
 {
+    if let Some(place) = place_at_end(ropes, id) {
+        return place;
+    }
     ropes.partition_point(|rope| rope.id.number() < id)
 }
 
