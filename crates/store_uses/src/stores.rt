@@ -1,8 +1,5 @@
 //! The store's own calls: its room, its free blocks, its shape and its tables.
 
-ghost use Rattle.std.specs.Prelude.{◌≡◌, IfOk};
-ghost use Rattle.std.specs.Arc.{arc_value};
-
 use crate::runs::{F20, small_disk};
 use std::alloc::Global;
 use std::sync::Arc;
@@ -23,9 +20,7 @@ fn one_tape(alloc: Global) -> Result<Arc<Tapes, Global>, Fail> {
 }
 
 // The store of a small disk.
-fn open(alloc: Global, tapes: &Arc<Tapes, Global>) -> Result<Store<MemDisk>, Fail>
-    ensures { IfOk result (λ store. store.tapes ≡ arc_value tapes.now) }
-{
+fn open(alloc: Global, tapes: &Arc<Tapes, Global>) -> Result<Store<MemDisk>, Fail> {
     let disk = small_disk(alloc, 2, &[])?;
     let Ok(shared) = Arc::try_clone(tapes) else {
         return Err(Fail::new("no memory"));

@@ -106,6 +106,7 @@ impl<D: Disk> Store<D> {
     /// Makes room for so many entries of the history; all else stays, whatever the answer.
     pub fn reserve(&mut self, n: u32) -> Result<(), NoMemory>
         ensures room { OnOk result (vec_len self.new.inside.history + n ≤ vec_capacity self.new.inside.history) }
+        ensures spare { vec_len self.old.inside.history + n ≤ vec_capacity self.old.inside.history → IsOk result }
         ensures history { self.new.history ≡ self.old.history }
         ensures state { (first : State) → Stands first (D.told self.old.origin) (D.told self.old.disk) self.old.inside → Stands first (D.told self.new.origin) (D.told self.new.disk) self.new.inside }
         ensures rest { (self.new.disk ≡ self.old.disk) × (self.new.origin ≡ self.old.origin) × (self.new.tapes ≡ self.old.tapes) }
