@@ -4,21 +4,20 @@ ghost use Rattle.std.specs.Prelude.{◌≡◌, ◌≤◌, IsTrue};
 ghost use Rattle.voice_units.specs.Layout.{bytes_needed};
 
 use crate::report::ratio;
+use crate::stores::{FILE, open_file};
 use std::alloc::{AllocError, Global};
 use std::fs::{self, File};
 use std::io;
 use std::rt::{Clock, Files};
 use std::time::{Duration, Instant};
-use voice_disk::{FileDisk, MemDisk};
+use voice_disk::MemDisk;
 use voice_journal::Journal;
 use voice_outside::Disk;
-use voice_units::{Graces, Name, Shape};
+use voice_units::{Graces, Shape};
 
 const SIZE: u64 = 4 << 20;
 // Where the usual disk's blocks begin.
 const BLOCKS: u64 = 64 + (2 << 20);
-
-const FILE: &str = "voice_bench.disk";
 
 const IN_MEMORY: u32 = 20_000;
 
@@ -87,68 +86,93 @@ fn memory_disk(alloc: Global, size: u64) -> Option<MemDisk> {
     MemDisk::new(alloc, size, Vec::new(alloc)).ok()
 }
 
-// How many appends were made, and how long they took.
-fn append_all<R: Clock, D: Disk>(
-    rt: &R,
-    alloc: Global,
-    disk: &mut D,
-    times: u32,
-) -> io::Result<(u32, Duration)> {
-    let Some(mut journal) = new_journal(alloc, disk) else {
-        return Err(io::Error::from(AllocError));
-    };
+// How many of so many appends were made.
+fn append_some<D: Disk>(journal: &mut Journal, disk: &mut D, times: u32) -> u32 {
     let mut made = 0u32;
-    let start = Instant::now(rt)?;
     for _ in 0..times {
-        if append_one(&mut journal, disk) {
+        if append_one(journal, disk) {
             made = made.saturating_add(1);
         }
     }
+    made
+}
+
+// How many appends were made, and how long they took.
+fn time_some<R: Clock, D: Disk>(
+    rt: &R,
+    journal: &mut Journal,
+    disk: &mut D,
+    times: u32,
+) -> io::Result<(u32, Duration)> {
+    let start = Instant::now(rt)?;
+    let made = append_some(journal, disk, times);
     let took = start.elapsed(rt)?;
     Ok((made, took))
+}
+
+// The same over a new disk in memory.
+fn append_in_memory<R: Clock>(rt: &R, alloc: Global) -> io::Result<(u32, Duration)> {
+    let Some(mut disk) = memory_disk(alloc, SIZE) else {
+        return Err(io::Error::from(AllocError));
+    };
+    let Some(mut journal) = new_journal(alloc, &mut disk) else {
+        return Err(io::Error::from(AllocError));
+    };
+    time_some(rt, &mut journal, &mut disk, IN_MEMORY)
+}
+
+fn time_one<R: Clock, D: Disk>(
+    rt: &R,
+    journal: &mut Journal,
+    disk: &mut D,
+) -> io::Result<Duration> {
+    let start = Instant::now(rt)?;
+    let _made = append_one(journal, disk);
+    start.elapsed(rt)
+}
+
+fn time_bare<R: Clock, D: Disk>(rt: &R, disk: &mut D, at: u64) -> io::Result<Duration> {
+    let start = Instant::now(rt)?;
+    let _called = append_bare(disk, at);
+    start.elapsed(rt)
 }
 
 // How long appends took, and the same calls made bare between them, where the disk's blocks lie.
 fn compare<R: Clock, D: Disk>(
     rt: &R,
-    alloc: Global,
+    journal: &mut Journal,
     disk: &mut D,
     times: u32,
 ) -> io::Result<(Duration, Duration)> {
-    let Some(mut journal) = new_journal(alloc, disk) else {
-        return Err(io::Error::from(AllocError));
-    };
     let mut took = Duration::ZERO;
     let mut bare = Duration::ZERO;
     for k in 0..times {
-        let start = Instant::now(rt)?;
-        let _made = append_one(&mut journal, disk);
-        took = took.saturating_add(start.elapsed(rt)?);
-        let start = Instant::now(rt)?;
-        let _called = append_bare(disk, BLOCKS + 14 * u64::from(k));
-        bare = bare.saturating_add(start.elapsed(rt)?);
+        took = took.saturating_add(time_one(rt, journal, disk)?);
+        bare = bare.saturating_add(time_bare(rt, disk, BLOCKS + 14 * u64::from(k))?);
     }
     Ok((took, bare))
 }
 
-fn measure_memory<R: Print + Clock + AllocGlobal>(rt: &R) -> io::Result<()> {
-    let alloc = rt.alloc();
-    let Some(mut disk) = memory_disk(alloc, SIZE) else {
+// The same over a real file.
+fn compare_in_file<R: Clock + Files<File = File>>(
+    rt: &R,
+    alloc: Global,
+) -> io::Result<(Duration, Duration)> {
+    let mut disk = open_file(rt, SIZE)?;
+    let Some(mut journal) = new_journal(alloc, &mut disk) else {
         return Err(io::Error::from(AllocError));
     };
-    let (made, took) = append_all(rt, alloc, &mut disk, IN_MEMORY)?;
+    compare(rt, &mut journal, &mut disk, IN_A_FILE)
+}
+
+fn measure_memory<R: Print + Clock + AllocGlobal>(rt: &R) -> io::Result<()> {
+    let (made, took) = append_in_memory(rt, rt.alloc())?;
     let rate = a_second(made, took);
     println!(rt; "appends over a disk in memory: {rate} a second")
 }
 
 fn measure_file<R: Print + Clock + AllocGlobal + Files<File = File>>(rt: &R) -> io::Result<()> {
-    let Ok(name) = Name::new(FILE.as_bytes()) else {
-        return Err(io::Error::from(AllocError));
-    };
-    let Ok(mut disk) = FileDisk::open(rt, &name, SIZE) else {
-        return Err(io::Error::from(AllocError));
-    };
-    let (took, bare) = compare(rt, rt.alloc(), &mut disk, IN_A_FILE)?;
+    let (took, bare) = compare_in_file(rt, rt.alloc())?;
     fs::remove_file(rt, FILE)?;
     let rate = a_second(IN_A_FILE, took);
     println!(rt; "appends over a real file: {rate} a second")?;

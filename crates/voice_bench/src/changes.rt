@@ -5,8 +5,11 @@ use std::alloc::Global;
 use voice_journal::Placed;
 use voice_units::NoMemory;
 
-// The samples of a recording, which fill a block.
-const BLOCK: u32 = 4096;
+/// The samples of a recording, which fill a block.
+pub const BLOCK: u32 = 4096;
+
+// How many recordings come before the changes of a kind.
+const FILES: u32 = 4096;
 
 /// What the changes of a list are.
 #[derive(Clone, Copy)]
@@ -22,6 +25,12 @@ pub enum Kind {
 pub struct Records {
     pub list: Vec<Placed>,
     pub size: u64,
+}
+
+// A number from 1 on below this one, as scattered as a generator's.
+fn one_below(number: u32, end: u64) -> u64 {
+    let scattered = u64::from(number).wrapping_mul(0x9e37_79b9_7f4a_7c15) >> 32;
+    scattered % end.saturating_sub(1).max(1) + 1
 }
 
 // The first bytes of a change: its kind and a number.
@@ -88,18 +97,24 @@ impl Records {
         Ok(())
     }
 
-    // Adds some changes of a kind, the ones of this number, where rope 1 is the recording of a block.
+    // Adds some changes of a kind, the ones of this number, behind the recordings. A row names the newest rope.
     fn add_some(&mut self, alloc: Global, kind: Kind, number: u32) -> Result<(), NoMemory> {
         let moment = u64::from(number) + 1;
-        let next = u64::from(number) + 2;
+        let next = u64::from(FILES + 1) + u64::from(number);
+        let newest = if let Kind::Mixed = kind {
+            next - 1
+        } else {
+            u64::from(FILES)
+        };
         if let Kind::Moments | Kind::Mixed = kind {
             self.add(alloc, &begun(alloc, 7, moment)?)?;
         }
         if let Kind::Interests | Kind::Mixed = kind {
-            self.add(alloc, &retained(alloc, moment, 1)?)?;
+            self.add(alloc, &retained(alloc, moment, newest)?)?;
         }
         if let Kind::Edits | Kind::Mixed = kind {
-            self.add(alloc, &edited(alloc, next, 1, number % 1000)?)?;
+            let file = one_below(number, u64::from(FILES + 1));
+            self.add(alloc, &edited(alloc, next, file, number % 1000)?)?;
         }
         if let Kind::Interests | Kind::Mixed = kind {
             self.add(alloc, &named(alloc, 4, moment)?)?;
@@ -117,11 +132,13 @@ impl Records {
     }
 }
 
-/// Changes of a kind, whose payloads have at least so many bytes.
+/// Changes of a kind, whose payloads have at least so many bytes: 4,096 recordings, and then moments, rows that come and go, edits of eight samples, or all of these by turns. Edits name files all over.
 pub fn changes_of(alloc: Global, kind: Kind, bytes: u64) -> Result<Records, NoMemory> {
     let mut records = Records::new(alloc);
-    records.add(alloc, &recorded(alloc, 1, 0)?)?;
-    for number in 0..u32::MAX {
+    for number in 0..FILES {
+        records.add(alloc, &recorded(alloc, u64::from(number) + 1, number)?)?;
+    }
+    for number in 0..u32::MAX - FILES {
         if records.size >= bytes {
             return Ok(records);
         }

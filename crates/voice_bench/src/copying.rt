@@ -7,7 +7,7 @@ use frame_pool::{Keeper, Lease, Part, Pool};
 use std::alloc::{AllocError, Global};
 use std::io;
 use std::rt::Clock;
-use std::time::Instant;
+use std::time::{Duration, Instant};
 use voice_units::{Lane, NoMemory};
 
 const TIMES: u32 = 20_000;
@@ -59,23 +59,48 @@ fn copy_plainly(bytes: &[u8; 16400], out: &mut [u8; 16384]) -> u8 {
     seen
 }
 
-/// Prints what a copy out of frames costs beside a plain one.
-pub fn measure<R: Print + Clock + AllocGlobal>(rt: &R) -> io::Result<()> {
+// What the copies of a lease looked at, and how long they took.
+fn time_lease<R: Clock>(
+    rt: &R,
+    lease: &mut Lease,
+    out: &mut [u8; 16384],
+) -> io::Result<(u8, Duration)>
+    requires { lease.old.live ≡ true }
+{
+    let start = Instant::now(rt)?;
+    let seen = copy_lease(lease, out);
+    let took = start.elapsed(rt)?;
+    Ok((seen, took))
+}
+
+// The same of a new window.
+fn time_window<R: Clock>(
+    rt: &R,
+    alloc: Global,
+    out: &mut [u8; 16384],
+) -> io::Result<(u8, Duration)> {
     let block = [165u8; 8192];
-    let Ok((_keeper, mut lease)) = window(rt.alloc(), &block) else {
+    let Ok((_keeper, mut lease)) = window(alloc, &block) else {
         return Err(io::Error::from(AllocError));
     };
+    time_lease(rt, &mut lease, out)
+}
+
+// The same of plain copies.
+fn time_plainly<R: Clock>(rt: &R, out: &mut [u8; 16384]) -> io::Result<(u8, Duration)> {
     let bytes = [165u8; 16400];
-    let mut out = [0u8; 16384];
     let start = Instant::now(rt)?;
-    let seen = copy_lease(&mut lease, &mut out);
+    let seen = copy_plainly(&bytes, out);
     let took = start.elapsed(rt)?;
-    let start = Instant::now(rt)?;
-    let seen_plainly = copy_plainly(&bytes, &mut out);
-    let bare = start.elapsed(rt)?;
-    println!(rt;
-        "a window of 16 KiB, {TIMES} copies, same bytes: {}",
-        seen == seen_plainly
-    )?;
+    Ok((seen, took))
+}
+
+/// Prints what a copy out of frames costs beside a plain one.
+pub fn measure<R: Print + Clock + AllocGlobal>(rt: &R) -> io::Result<()> {
+    let mut out = [0u8; 16384];
+    let (seen, took) = time_window(rt, rt.alloc(), &mut out)?;
+    let (seen_plainly, bare) = time_plainly(rt, &mut out)?;
+    let same = seen == seen_plainly;
+    println!(rt; "a window of 16 KiB, {TIMES} copies, same bytes: {same}")?;
     ratio(rt, "copying it out of frames", took, bare)
 }

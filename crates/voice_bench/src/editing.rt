@@ -2,17 +2,15 @@
 
 use crate::bare;
 use crate::report::ratio;
-use crate::stores::{bytes_of, edit, shape_of, size_of, store_to_edit};
-use std::alloc::{AllocError, Global};
+use crate::stores::{FILE, bytes_of, edit, open_file, shape_of, size_of, store_to_edit};
+use std::alloc::Global;
 use std::fs::{self, File};
 use std::io;
 use std::rt::{Clock, Files};
 use std::time::{Duration, Instant};
 use voice_disk::FileDisk;
 use voice_store::Store;
-use voice_units::{Name, Shape};
-
-const FILE: &str = "voice_bench.disk";
+use voice_units::Shape;
 
 const EDITS: u32 = 300;
 
@@ -25,16 +23,6 @@ const FREE_BLOCKS: u64 = 64 + 2 * (1 << 20) + 4 * 4096;
 const OF_ONE_PIECE: u32 = 4 + 27 + 1;
 
 const OF_TWO_PIECES: u32 = 4 + 43 + 1;
-
-fn open_file<R: Files<File = File>>(rt: &R, shape: &Shape) -> io::Result<FileDisk> {
-    let Ok(name) = Name::new(FILE.as_bytes()) else {
-        return Err(io::Error::from(AllocError));
-    };
-    let Ok(disk) = FileDisk::open(rt, &name, size_of(shape)) else {
-        return Err(io::Error::from(AllocError));
-    };
-    Ok(disk)
-}
 
 fn time_edit<R: Clock>(
     rt: &R,
@@ -79,13 +67,21 @@ fn compare<R: Clock>(
     Ok((took, bare))
 }
 
+fn new_store<R: Files<File = File>>(
+    rt: &R,
+    alloc: Global,
+    shape: &Shape,
+) -> io::Result<Store<FileDisk>> {
+    let disk = open_file(rt, size_of(shape))?;
+    store_to_edit(alloc, disk, shape)
+}
+
 fn compare_in_file<R: Clock + AllocGlobal + Files<File = File>>(
     rt: &R,
 ) -> io::Result<(Duration, Duration)> {
     let shape = shape_of(4096, 16, AREA)?;
-    let disk = open_file(rt, &shape)?;
-    let mut store = store_to_edit(rt.alloc(), disk, &shape)?;
-    let mut disk = open_file(rt, &shape)?;
+    let mut store = new_store(rt, rt.alloc(), &shape)?;
+    let mut disk = open_file(rt, size_of(&shape))?;
     compare(rt, rt.alloc(), &mut store, &mut disk)
 }
 

@@ -8,8 +8,10 @@ use std::alloc::{AllocError, Global};
 use std::hint::black_box;
 use std::io::{self, ErrorKind};
 use std::rt::Clock;
+use std::sync::Arc;
 use std::time::{Duration, Instant};
 use voice_disk::MemDisk;
+use voice_model::Tapes;
 use voice_store::Store;
 use voice_units::RopeId;
 
@@ -63,12 +65,17 @@ fn edit_all<R: Clock>(
     Ok(times)
 }
 
+// The disk of a store that is let go.
+fn closed(store: Store<MemDisk>) -> MemDisk {
+    let (disk, _history) = store.close();
+    disk
+}
+
 // How long each thousand took, and the disk that they leave.
 fn edit_new<R: Clock>(rt: &R, alloc: Global) -> io::Result<(Vec<Duration>, MemDisk)> {
     let mut store = new_store(alloc)?;
     let times = edit_all(rt, alloc, &mut store)?;
-    let (disk, _history) = store.close();
-    Ok((times, disk))
+    Ok((times, closed(store)))
 }
 
 fn print_times<R: Print>(rt: &R, times: &[Duration]) -> io::Result<()> {
@@ -80,30 +87,45 @@ fn print_times<R: Print>(rt: &R, times: &[Duration]) -> io::Result<()> {
     println!(rt; "")
 }
 
-/// Prints what the last thousand of 20,000 edits cost beside the first.
-pub fn measure<R: Print + Clock + AllocGlobal>(rt: &R) -> io::Result<()> {
-    let (times, _disk) = edit_new(rt, rt.alloc())?;
-    print_times(rt, &times)?;
+// Prints each time, and the last one beside the first.
+fn compare_times<R: Print>(rt: &R, times: &[Duration]) -> io::Result<()> {
+    print_times(rt, times)?;
     let (Some(first), Some(last)) = (times.first(), times.last()) else {
         return Err(io::Error::from(AllocError));
     };
     ratio(rt, "the last thousand edits, to the first", *last, *first)
 }
 
-// Opens the store of a disk, and tells how long that took. It has to have the last rope.
-fn reopen<R: Clock>(rt: &R, alloc: Global, disk: MemDisk) -> io::Result<(MemDisk, Duration)> {
-    let tapes = one_tape(alloc, 0)?;
+/// Prints what the last thousand of 20,000 edits cost beside the first.
+pub fn measure<R: Print + Clock + AllocGlobal>(rt: &R) -> io::Result<()> {
+    let (times, _disk) = edit_new(rt, rt.alloc())?;
+    compare_times(rt, &times)
+}
+
+// Opens the store of a disk, and tells how long that took.
+fn time_open<R: Clock>(
+    rt: &R,
+    alloc: Global,
+    disk: MemDisk,
+    tapes: Arc<Tapes, Global>,
+) -> io::Result<(Store<MemDisk>, Duration)> {
     let start = Instant::now(rt)?;
     let opened = Store::open(alloc, disk, tapes);
     let took = start.elapsed(rt)?;
-    let Ok(mut store) = opened else {
-        return Err(io::Error::from(ErrorKind::InvalidData));
-    };
+    match opened {
+        Ok(store) => Ok((store, took)),
+        Err(_) => Err(io::Error::from(ErrorKind::InvalidData)),
+    }
+}
+
+// The same, of a store that has to have the last rope and is let go.
+fn reopen<R: Clock>(rt: &R, alloc: Global, disk: MemDisk) -> io::Result<(MemDisk, Duration)> {
+    let tapes = one_tape(alloc, 0)?;
+    let (mut store, took) = time_open(rt, alloc, disk, tapes)?;
     if !is_live(&mut store, RopeId(u64::from(EDITS) + 2)) {
         return Err(io::Error::from(ErrorKind::InvalidData));
     }
-    let (disk, _history) = store.close();
-    Ok((disk, took))
+    Ok((closed(store), took))
 }
 
 // How long reading the journal's bytes took, with their sum.
@@ -115,8 +137,12 @@ fn read_journal<R: Clock>(rt: &R, disk: &mut MemDisk, bytes: &mut [u8]) -> io::R
 }
 
 // How long opening takes, and reading the journal's bytes, each at its best.
-fn compare<R: Clock>(rt: &R, alloc: Global, disk: MemDisk) -> io::Result<(Duration, Duration)> {
-    let mut bytes = bytes_of(alloc, 0, JOURNAL)?;
+fn compare_into<R: Clock>(
+    rt: &R,
+    alloc: Global,
+    disk: MemDisk,
+    bytes: &mut [u8],
+) -> io::Result<(Duration, Duration)> {
     let mut disk = disk;
     let mut took = Duration::MAX;
     let mut bare = Duration::MAX;
@@ -124,15 +150,21 @@ fn compare<R: Clock>(rt: &R, alloc: Global, disk: MemDisk) -> io::Result<(Durati
         let (again, time) = reopen(rt, alloc, disk)?;
         disk = again;
         took = took.min(time);
-        bare = bare.min(read_journal(rt, &mut disk, &mut bytes)?);
+        bare = bare.min(read_journal(rt, &mut disk, bytes)?);
     }
     Ok((took, bare))
 }
 
+// The same of a new store.
+fn compare<R: Clock>(rt: &R, alloc: Global) -> io::Result<(Duration, Duration)> {
+    let (_times, disk) = edit_new(rt, alloc)?;
+    let mut bytes = bytes_of(alloc, 0, JOURNAL)?;
+    compare_into(rt, alloc, disk, &mut bytes)
+}
+
 /// Prints what opening a store of 20,000 ropes costs beside reading its journal's bytes.
 pub fn measure_opening<R: Print + Clock + AllocGlobal>(rt: &R) -> io::Result<()> {
-    let (_times, disk) = edit_new(rt, rt.alloc())?;
-    let (took, bare) = compare(rt, rt.alloc(), disk)?;
+    let (took, bare) = compare(rt, rt.alloc())?;
     ratio(
         rt,
         "opening a store of 20,000 ropes, to reading its journal",

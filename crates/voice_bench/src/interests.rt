@@ -56,20 +56,33 @@ fn forget_some(table: &mut InterestTable, apart: u32) -> Result<(), NoMemory> {
     Ok(())
 }
 
-fn measure_rows<R: Print + Clock>(rt: &R, alloc: Global, rows: u32) -> io::Result<()> {
-    let mut table = InterestTable::new(alloc);
-    let mut met = retain_all(&mut table, 0, rows);
+// The nanoseconds of each of so many rows that are put in last, and of each that is taken out, and whether all were met.
+fn time_rows<R: Clock>(
+    rt: &R,
+    table: &mut InterestTable,
+    rows: u32,
+) -> io::Result<(u128, u128, bool)> {
+    let mut met = retain_all(table, 0, rows).is_ok();
     let start = Instant::now(rt)?;
-    if met.is_ok() {
-        met = retain_all(&mut table, rows, rows.saturating_add(TIMES));
+    if met {
+        met = retain_all(table, rows, rows.saturating_add(TIMES)).is_ok();
     }
     let retained = start.elapsed(rt)?.as_nanos() / u128::from(TIMES);
     let start = Instant::now(rt)?;
-    if met.is_ok() {
-        met = forget_some(&mut table, rows / TIMES);
+    if met {
+        met = forget_some(table, rows / TIMES).is_ok();
     }
     let forgot = start.elapsed(rt)?.as_nanos() / u128::from(TIMES);
-    let known = met.is_ok();
+    Ok((retained, forgot, met))
+}
+
+fn time_new<R: Clock>(rt: &R, alloc: Global, rows: u32) -> io::Result<(u128, u128, bool)> {
+    let mut table = InterestTable::new(alloc);
+    time_rows(rt, &mut table, rows)
+}
+
+fn measure_rows<R: Print + Clock>(rt: &R, alloc: Global, rows: u32) -> io::Result<()> {
+    let (retained, forgot, known) = time_new(rt, alloc, rows)?;
     println!(rt; "{rows} rows: retain {retained} ns, forget {forgot} ns ({known})")
 }
 

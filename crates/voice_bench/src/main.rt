@@ -35,7 +35,7 @@ voice_bench MEASUREMENT: prints figures of this machine.
   rows     making and forgetting an interest, by the number of interests
   ropes    putting in, taking out, cutting and sweeping ropes, by the number of ropes
   appends  appends a second in memory and to a file of this folder, against bare calls
-  replay   replay of 16 MiB of changes, against reading their bytes and a look-up for each
+  replay   replay of 16 MiB of changes, against reading them and looking each number up
   compact  the base of a state, by the number of ropes
   record   recording 48 MiB in pieces of 1 MiB in memory, against bare calls
   edits    300 edits to a file of this folder, against bare calls
@@ -44,56 +44,81 @@ voice_bench MEASUREMENT: prints figures of this machine.
   all      each of these
 ";
 
+// Whether a measurement is asked for, by its own name or with all of them.
+fn is_asked(word: &str, name: &str) -> bool {
+    word == "all" || word == name
+}
+
 fn measure<R: Env + Print + Clock + AllocGlobal + Files<File = File> + Threads + Wait + Sync>(
     rt: &R,
     word: &str,
 ) -> io::Result<()> {
-    let all = word == "all";
-    if all || word == "copy" {
+    if is_asked(word, "copy") {
         copying::measure(rt)?;
     }
-    if all || word == "turns" {
+    if is_asked(word, "turns") {
         turning::measure(rt)?;
     }
-    if all || word == "parse" {
-        parsing::measure(rt)?;
-    }
-    if all || word == "loud" {
-        loudness::measure(rt)?;
-    }
-    if all || word == "rows" {
-        interests::measure(rt)?;
-    }
-    if all || word == "ropes" {
-        ropes::measure(rt)?;
-    }
-    if all || word == "appends" {
-        appends::measure(rt)?;
-    }
+    measure_samples(rt, word)?;
+    measure_tables(rt, word)?;
+    measure_journal(rt, word)?;
     measure_store(rt, word)
 }
 
-fn measure_store<R: Env + Print + Clock + AllocGlobal + Files<File = File>>(
+fn measure_samples<R: Print + Clock + AllocGlobal>(rt: &R, word: &str) -> io::Result<()> {
+    if is_asked(word, "parse") {
+        parsing::measure(rt)?;
+    }
+    if is_asked(word, "loud") {
+        loudness::measure(rt)?;
+    }
+    Ok(())
+}
+
+fn measure_tables<R: Print + Clock + AllocGlobal>(rt: &R, word: &str) -> io::Result<()> {
+    if is_asked(word, "rows") {
+        interests::measure(rt)?;
+    }
+    if is_asked(word, "ropes") {
+        ropes::measure(rt)?;
+    }
+    Ok(())
+}
+
+fn measure_journal<R: Print + Clock + AllocGlobal + Files<File = File>>(
     rt: &R,
     word: &str,
 ) -> io::Result<()> {
-    let all = word == "all";
-    if all || word == "replay" {
+    if is_asked(word, "appends") {
+        appends::measure(rt)?;
+    }
+    if is_asked(word, "replay") {
         replaying::measure(rt)?;
     }
-    if all || word == "compact" {
+    if is_asked(word, "compact") {
         compacting::measure(rt)?;
     }
-    if all || word == "record" {
+    Ok(())
+}
+
+fn measure_store<R: Print + Clock + AllocGlobal + Files<File = File>>(
+    rt: &R,
+    word: &str,
+) -> io::Result<()> {
+    if is_asked(word, "record") {
         recording::measure(rt)?;
     }
-    if all || word == "edits" {
+    if is_asked(word, "edits") {
         editing::measure(rt)?;
     }
-    if all || word == "growth" {
+    measure_growth(rt, word)
+}
+
+fn measure_growth<R: Print + Clock + AllocGlobal>(rt: &R, word: &str) -> io::Result<()> {
+    if is_asked(word, "growth") {
         growing::measure(rt)?;
     }
-    if all || word == "open" {
+    if is_asked(word, "open") {
         growing::measure_opening(rt)?;
     }
     Ok(())

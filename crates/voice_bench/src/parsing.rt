@@ -54,22 +54,37 @@ fn cut<R: Clock>(rt: &R, bytes: &[u8]) -> io::Result<(usize, Duration)> {
     Ok((words, took))
 }
 
+// The best of these times and of some more of each.
+fn best<R: Clock + AllocGlobal>(
+    rt: &R,
+    bytes: &[u8],
+    first: Duration,
+    bare: Duration,
+) -> io::Result<(Duration, Duration)> {
+    let mut took = first;
+    let mut bare = bare;
+    for _ in 0..TIMES {
+        let (_, again) = read(rt, bytes)?;
+        took = took.min(again);
+        let (_, again) = cut(rt, bytes)?;
+        bare = bare.min(again);
+    }
+    Ok((took, bare))
+}
+
+fn measure_script<R: Print + Clock + AllocGlobal>(rt: &R, bytes: &[u8]) -> io::Result<()> {
+    let (lines, first) = read(rt, bytes)?;
+    let (words, bare) = cut(rt, bytes)?;
+    println!(rt; "a script of {lines} lines, {words} words")?;
+    ratio(rt, "reading it the first time", first, bare)?;
+    let (took, bare) = best(rt, bytes, first, bare)?;
+    ratio(rt, "reading it", took, bare)
+}
+
 /// Prints what reading a script of 65,535 lines costs beside cutting its bytes into words, each at its best of some times.
 pub fn measure<R: Print + Clock + AllocGlobal>(rt: &R) -> io::Result<()> {
     let Ok(bytes) = script(rt.alloc()) else {
         return Err(io::Error::from(AllocError));
     };
-    let (lines, first) = read(rt, &bytes)?;
-    let (words, bare) = cut(rt, &bytes)?;
-    println!(rt; "a script of {lines} lines, {words} words")?;
-    ratio(rt, "reading it the first time", first, bare)?;
-    let mut took = first;
-    let mut bare = bare;
-    for _ in 0..TIMES {
-        let (_, again) = read(rt, &bytes)?;
-        took = took.min(again);
-        let (_, again) = cut(rt, &bytes)?;
-        bare = bare.min(again);
-    }
-    ratio(rt, "reading it", took, bare)
+    measure_script(rt, &bytes)
 }

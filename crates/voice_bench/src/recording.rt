@@ -1,6 +1,7 @@
 //! Recordings over a disk in memory.
 
-ghost use Rattle.std.specs.Prelude.{◌≡◌};
+ghost use Rattle.std.specs.Prelude.{◌≡◌, IfOk};
+ghost use Rattle.std.specs.Arc.{arc_value};
 
 use crate::bare;
 use crate::report::ratio;
@@ -8,6 +9,7 @@ use crate::stores::{bytes_of, new_store, one_tape, record, shape_of, size_of};
 use std::alloc::{AllocError, Global};
 use std::io::{self, ErrorKind};
 use std::rt::Clock;
+use std::sync::Arc;
 use std::time::{Duration, Instant};
 use voice_disk::MemDisk;
 use voice_model::Tapes;
@@ -130,14 +132,29 @@ fn new_disk(alloc: Global, shape: &Shape) -> io::Result<MemDisk> {
     }
 }
 
-/// Prints what recording 48 MiB in pieces of 1 MiB costs beside the same calls of a disk made bare.
-pub fn measure<R: Print + Clock + AllocGlobal>(rt: &R) -> io::Result<()> {
-    let alloc = rt.alloc();
+fn new_recorder(
+    alloc: Global,
+    shape: &Shape,
+    tapes: &Arc<Tapes, Global>,
+) -> io::Result<Store<MemDisk>>
+    ensures { IfOk result (λ store. store.tapes ≡ arc_value tapes.now) }
+{
+    let disk = new_disk(alloc, shape)?;
+    new_store(alloc, disk, shape, tapes)
+}
+
+// How long all recordings of new tapes took, and the same calls.
+fn compare_new<R: Clock>(rt: &R, alloc: Global) -> io::Result<(Duration, Duration)> {
     let shape = shape_of(BLOCK, PIECES * BLOCKS_OF_A_PIECE, AREA)?;
     let tapes = one_tape(alloc, PIECES * PIECE)?;
-    let mut store = new_store(alloc, new_disk(alloc, &shape)?, &shape, &tapes)?;
+    let mut store = new_recorder(alloc, &shape, &tapes)?;
     let mut disk = new_disk(alloc, &shape)?;
-    let (took, bare) = compare(rt, alloc, &mut store, &mut disk, &tapes)?;
+    compare(rt, alloc, &mut store, &mut disk, &tapes)
+}
+
+/// Prints what recording 48 MiB in pieces of 1 MiB costs beside the same calls of a disk made bare.
+pub fn measure<R: Print + Clock + AllocGlobal>(rt: &R) -> io::Result<()> {
+    let (took, bare) = compare_new(rt, rt.alloc())?;
     ratio(
         rt,
         "recording 48 MiB in pieces of 1 MiB, to its calls of the disk",

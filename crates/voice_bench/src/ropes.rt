@@ -135,6 +135,69 @@ fn due_now(
     due_at::<Brand>(alloc, table, interests, now, Blank::new(1))
 }
 
+// Puts in as many ropes as a round does.
+fn put_round(alloc: Global, table: &mut RopeTable, from: u32, apart: u32) -> io::Result<()>
+    requires { Every (λ rope. rope.kept ≡ false) table.old.ropes }
+    ensures { Every (λ rope. rope.kept ≡ false) table.new.ropes }
+{
+    if put_some(alloc, table, from, apart, u32::from(SOME)).is_err() {
+        return Err(io::Error::from(AllocError));
+    }
+    Ok(())
+}
+
+fn time_put<R: Clock>(
+    rt: &R,
+    alloc: Global,
+    table: &mut RopeTable,
+    from: u32,
+) -> io::Result<Duration>
+    requires { Every (λ rope. rope.kept ≡ false) table.old.ropes }
+    ensures { Every (λ rope. rope.kept ≡ false) table.new.ropes }
+{
+    let start = Instant::now(rt)?;
+    put_round(alloc, table, from, 1)?;
+    start.elapsed(rt)
+}
+
+fn time_remove<R: Clock>(rt: &R, table: &mut RopeTable, apart: u32) -> io::Result<Duration>
+    requires { Every (λ rope. rope.kept ≡ false) table.old.ropes }
+    ensures { Every (λ rope. rope.kept ≡ false) table.new.ropes }
+{
+    let start = Instant::now(rt)?;
+    remove_some(table, 1, apart);
+    start.elapsed(rt)
+}
+
+fn time_slice<R: Clock>(rt: &R, table: &RopeTable, apart: u32) -> io::Result<Duration> {
+    let start = Instant::now(rt)?;
+    let cut = slice_some(table, 1, apart);
+    let took = start.elapsed(rt)?;
+    if cut != Ok(u32::from(SOME)) {
+        return Err(io::Error::from(AllocError));
+    }
+    Ok(took)
+}
+
+fn time_due<R: Clock>(
+    rt: &R,
+    alloc: Global,
+    table: &RopeTable,
+    interests: &InterestTable,
+) -> io::Result<Duration>
+    requires free { Every (λ rope. rope.kept ≡ false) table.now.ropes }
+    requires none { interests.now.rows ≡ [] }
+{
+    let now = Moment(u64::from(WAIT) + u64::from(SOME));
+    let start = Instant::now(rt)?;
+    let due = due_now(alloc, table, interests, now);
+    let took = start.elapsed(rt)?;
+    if due != Ok(usize::from(SOME)) {
+        return Err(io::Error::from(AllocError));
+    }
+    Ok(took)
+}
+
 // How long a round of each call takes at so many ropes. The table has the same ropes after it.
 fn round<R: Clock>(
     rt: &R,
@@ -149,28 +212,12 @@ fn round<R: Clock>(
 {
     let apart = count / u32::from(SOME);
     let behind = count.wrapping_add(1);
-    let start = Instant::now(rt)?;
-    let added = put_some(alloc, table, behind, 1, u32::from(SOME));
-    let add = start.elapsed(rt)?;
-    let start = Instant::now(rt)?;
-    remove_some(table, 1, apart);
-    let remove = start.elapsed(rt)?;
+    let add = time_put(rt, alloc, table, behind)?;
+    let remove = time_remove(rt, table, apart)?;
     remove_some(table, behind, 1);
-    let again = put_some(alloc, table, 1, apart, u32::from(SOME));
-    let start = Instant::now(rt)?;
-    let cut = slice_some(table, 1, apart);
-    let slice = start.elapsed(rt)?;
-    let now = Moment(u64::from(WAIT) + u64::from(SOME));
-    let start = Instant::now(rt)?;
-    let due = due_now(alloc, table, interests, now);
-    let first = start.elapsed(rt)?;
-    if added.is_err()
-        || again.is_err()
-        || cut != Ok(u32::from(SOME))
-        || due != Ok(usize::from(SOME))
-    {
-        return Err(io::Error::from(AllocError));
-    }
+    put_round(alloc, table, 1, apart)?;
+    let slice = time_slice(rt, table, apart)?;
+    let first = time_due(rt, alloc, table, interests)?;
     Ok(Times {
         add,
         remove,
@@ -220,13 +267,18 @@ fn rounds<R: Clock>(
     Ok(times)
 }
 
-fn measure_ropes<R: Print + Clock>(rt: &R, alloc: Global, count: u32) -> io::Result<()> {
+// How long all rounds of each call take at a new table of so many ropes.
+fn new_rounds<R: Clock>(rt: &R, alloc: Global, count: u32) -> io::Result<Times> {
     let mut table = RopeTable::new(alloc, BLOCK);
     let interests = InterestTable::new(alloc);
     if put_some(alloc, &mut table, 1, 1, count).is_err() {
         return Err(io::Error::from(AllocError));
     }
-    let times = rounds(rt, alloc, &mut table, &interests, count)?;
+    rounds(rt, alloc, &mut table, &interests, count)
+}
+
+fn measure_ropes<R: Print + Clock>(rt: &R, alloc: Global, count: u32) -> io::Result<()> {
+    let times = new_rounds(rt, alloc, count)?;
     let add = nanos(times.add, SOME);
     let remove = nanos(times.remove, SOME);
     let slice = nanos(times.slice, SOME);

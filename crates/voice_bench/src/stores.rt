@@ -5,18 +5,35 @@ ghost use Rattle.std.specs.Arc.{arc_value};
 ghost use Rattle.voice_journal.specs.Readings.{extent};
 
 use std::alloc::{AllocError, Global};
+use std::fs::File;
 use std::io::{self, ErrorKind};
+use std::rt::Files;
 use std::sync::Arc;
+use voice_disk::FileDisk;
 use voice_model::{Call, Reply, RopeList, Tapes};
 use voice_outside::Disk;
 use voice_store::Store;
-use voice_units::{Graces, RopeId, Shape, Take};
+use voice_units::{Graces, Name, RopeId, Shape, Take};
 
 // More bytes than any disk of these measurements has.
 const LARGE: u64 = 1 << 40;
 
 // How long the recording of a store of edits is.
 const RECORDED: u32 = 4096;
+
+/// The file that the measurements over a real file use.
+pub const FILE: &str = "voice_bench.disk";
+
+/// A disk of so many bytes in that file.
+pub fn open_file<R: Files<File = File>>(rt: &R, size: u64) -> io::Result<FileDisk> {
+    let Ok(name) = Name::new(FILE.as_bytes()) else {
+        return Err(io::Error::from(AllocError));
+    };
+    match FileDisk::open(rt, &name, size) {
+        Ok(disk) => Ok(disk),
+        Err(_) => Err(io::Error::from(AllocError)),
+    }
+}
 
 /// A shape of version 2 with blocks and areas of these sizes.
 pub fn shape_of(block: u32, blocks: u32, area: u32) -> io::Result<Shape> {
@@ -131,6 +148,19 @@ pub fn is_live<D: Disk>(store: &mut Store<D>, rope: RopeId) -> bool {
     matches!(store.apply(1, Call::Length(rope)), Ok(Reply::Number(_)))
 }
 
+// Records rope 1, and cuts rope 2 out of it.
+fn begin_edits<D: Disk>(store: &mut Store<D>, tapes: &Tapes) -> io::Result<()>
+    requires { store.old.tapes ≡ tapes.now }
+{
+    let take = Take {
+        tape: 0,
+        from: 0,
+        len: RECORDED,
+    };
+    record(store, tapes, take)?;
+    cut(store, RopeId(1), 0, 100)
+}
+
 /// A new store for edits: rope 1 is a recording, and rope 2 a part of it.
 pub fn store_to_edit<D: Disk + Drop>(
     alloc: Global,
@@ -139,13 +169,7 @@ pub fn store_to_edit<D: Disk + Drop>(
 ) -> io::Result<Store<D>> {
     let tapes = one_tape(alloc, RECORDED)?;
     let mut store = new_store(alloc, disk, shape, &tapes)?;
-    let take = Take {
-        tape: 0,
-        from: 0,
-        len: RECORDED,
-    };
-    record(&mut store, &tapes, take)?;
-    cut(&mut store, RopeId(1), 0, 100)?;
+    begin_edits(&mut store, &tapes)?;
     Ok(store)
 }
 
