@@ -1,8 +1,10 @@
 -- What a disk in memory tells.
 --     mem_told disk      what it tells
 --     IsFresh      a disk that made no call
---     listed_calls, starved_calls, FailsAsListed      which calls fail
-use Rattle.std.specs.Prelude.{◌≡◌, ◌⊎◌, ◌+◌, ◌-◌, ◌^◌, ◌<◌, ◌≤◌, ℕ, List, length, reverse, true, Contains, Result, IsErr}
+--     listed_calls, starved_calls, FailsAsListed, StarvesOnce      which calls fail
+--     HasSpare      its record of calls has room for one more
+use Rattle.std.specs.Prelude.{◌≡◌, ◌⊎◌, ◌+◌, ◌-◌, ◌^◌, ◌<◌, ◌≤◌, ℕ, List, length, reverse, true, Contains, Result, IsErr, OnOk, vec_len}
+use Rattle.std.specs.Vec.{vec_capacity}
 use Rattle.voice_outside.specs.Disk.{Told}
 use Rattle.voice_disk.specs.Replay.{left_since}
 use Rattle.voice_disk.specs.declared.record.Entry.{Entry}
@@ -29,7 +31,7 @@ pub record IsFresh (disk : Told) (bytes : List ℕ) : Type 0 where
 abbrev pub listed_calls : MemDisk → List ℕ
 listed_calls disk = disk.fails.items
 
--- how many calls found no memory for the record
+-- how many calls that were to be done found no memory for the record
 abbrev pub starved_calls : MemDisk → ℕ
 starved_calls disk = disk.starved
 
@@ -40,3 +42,15 @@ pub record FailsAsListed {T E : Type 0} (old new : MemDisk) (result : Result T E
   pub spent : 2 ^ 64 - 1 ≤ old.calls → IsErr result
   pub only : IsErr result → Contains (listed_calls old) (old.calls + 1) ⊎ ((starved_calls old < starved_calls new) ⊎ (2 ^ 64 - 1 ≤ old.calls))
   pub list_stays : listed_calls new ≡ listed_calls old
+
+-- The count of calls that found no memory rises by one at most, and only on a call that fails and whose number isn't listed.
+pub record StarvesOnce {T E : Type 0} (old new : MemDisk) (result : Result T E) : Type 0 where
+  pub later : starved_calls old ≤ starved_calls new
+  pub once : starved_calls new ≤ starved_calls old + 1
+  pub done : OnOk result (starved_calls new ≡ starved_calls old)
+  pub listed : Contains (listed_calls old) (old.calls + 1) → starved_calls new ≡ starved_calls old
+  pub last : 2 ^ 64 - 1 ≤ old.calls → starved_calls new ≡ starved_calls old
+
+-- the record of its calls has room for one more
+abbrev pub HasSpare : MemDisk → Type 0
+HasSpare disk = vec_len disk.log < vec_capacity disk.log

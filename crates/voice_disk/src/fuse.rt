@@ -1,7 +1,7 @@
 //! A disk that stops.
 
-ghost use Rattle.std.specs.Prelude.{◌≡◌, ◌≤◌, ◌<◌, ◌-◌, ◌+◌, ◌^◌, IsErr, IsTrue, length};
-ghost use Rattle.voice_outside.specs.Counters.{next_count, HasRisen};
+ghost use Rattle.std.specs.Prelude.{◌≡◌, ◌≤◌, ◌<◌, ◌-◌, ◌+◌, ◌^◌, IsErr, IsTrue, is_err, length};
+ghost use Rattle.voice_outside.specs.Counters.{next_count, faults_after, HasRisen};
 
 use crate::memory::MemDisk;
 use voice_outside::Disk;
@@ -52,6 +52,7 @@ impl FuseDisk {
         ensures calls { self.new.calls ≡ next_count self.old.calls }
         ensures later { self.old.calls ≤ self.new.calls }
         ensures faults { self.old.faults ≤ self.new.faults }
+        ensures exactly { self.new.faults ≡ next_count self.old.faults }
         ensures rose { HasRisen self.old.faults self.new.faults }
     {
         self.calls = self.calls.saturating_add(1);
@@ -61,7 +62,7 @@ impl FuseDisk {
 
 impl Disk for FuseDisk {
     ghost use Rattle.voice_outside.specs.Disk.{Counts, Rests, ReadsAt, WritesAt, Syncs};
-    ghost use Rattle.voice_disk.specs.Memory.{FailsAsListed};
+    ghost use Rattle.voice_disk.specs.Memory.{FailsAsListed, StarvesOnce};
     ghost use Rattle.voice_disk.specs.Fuse.{fuse_told, fuse_since, fuse_present, fuse_sized, calls_left, behind_fuse};
 
     ghost told = { fuse_told };
@@ -87,7 +88,10 @@ impl Disk for FuseDisk {
         ensures content { IsTrue (fuse_told self.old).honest → ReadsAt at (length into.old) (fuse_told self.old) (fuse_told self.new) into.new result }
         ensures blown { calls_left self.old ≡ 0 → IsErr result }
         ensures passed { 0 < calls_left self.old → FailsAsListed (behind_fuse self.old) (behind_fuse self.new) result }
+        ensures starved { 0 < calls_left self.old → StarvesOnce (behind_fuse self.old) (behind_fuse self.new) result }
         ensures left { calls_left self.new ≡ calls_left self.old - 1 }
+        ensures faults { (fuse_told self.new).faults ≡ faults_after (is_err result) (fuse_told self.old).faults }
+        ensures behind { calls_left self.old ≡ 0 → behind_fuse self.new ≡ behind_fuse self.old }
     {
         if self.left == 0 {
             self.refuse();
@@ -109,7 +113,10 @@ impl Disk for FuseDisk {
         ensures content { IsTrue (fuse_told self.old).honest → WritesAt at bytes.now (fuse_told self.old) (fuse_told self.new) result }
         ensures blown { calls_left self.old ≡ 0 → IsErr result }
         ensures passed { 0 < calls_left self.old → FailsAsListed (behind_fuse self.old) (behind_fuse self.new) result }
+        ensures starved { 0 < calls_left self.old → StarvesOnce (behind_fuse self.old) (behind_fuse self.new) result }
         ensures left { calls_left self.new ≡ calls_left self.old - 1 }
+        ensures faults { (fuse_told self.new).faults ≡ faults_after (is_err result) (fuse_told self.old).faults }
+        ensures behind { calls_left self.old ≡ 0 → behind_fuse self.new ≡ behind_fuse self.old }
     {
         if self.left == 0 {
             self.refuse();
@@ -130,7 +137,10 @@ impl Disk for FuseDisk {
         ensures content { IsTrue (fuse_told self.old).honest → Syncs (fuse_told self.old) (fuse_told self.new) result }
         ensures blown { calls_left self.old ≡ 0 → IsErr result }
         ensures passed { 0 < calls_left self.old → FailsAsListed (behind_fuse self.old) (behind_fuse self.new) result }
+        ensures starved { 0 < calls_left self.old → StarvesOnce (behind_fuse self.old) (behind_fuse self.new) result }
         ensures left { calls_left self.new ≡ calls_left self.old - 1 }
+        ensures faults { (fuse_told self.new).faults ≡ faults_after (is_err result) (fuse_told self.old).faults }
+        ensures behind { calls_left self.old ≡ 0 → behind_fuse self.new ≡ behind_fuse self.old }
     {
         if self.left == 0 {
             self.refuse();

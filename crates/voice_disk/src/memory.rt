@@ -1,6 +1,7 @@
 //! A disk in memory.
 
-ghost use Rattle.std.specs.Prelude.{◌≡◌, ◌≤◌, ◌<◌, ◌-◌, ◌+◌, ◌^◌, reverse, length, replicate, IfOk, IsTrue, OnErr};
+ghost use Rattle.std.specs.Prelude.{◌≡◌, ◌≤◌, ◌<◌, ◌-◌, ◌+◌, ◌^◌, reverse, length, replicate, is_err, IfOk, IsTrue, OnErr};
+ghost use Rattle.voice_outside.specs.Counters.{faults_after};
 ghost use Rattle.voice_disk.specs.Replay.{bytes_after, newest};
 
 use crate::record::{Entry, Made, keep, keep_write, put_over};
@@ -56,7 +57,7 @@ impl MemDisk {
         })
     }
 
-    /// How many calls found no memory for the record.
+    /// How many calls that were to be done found no memory for the record.
     pub fn starved(&self) -> u64
         ensures { result ≡ starved_calls self.now }
     {
@@ -66,7 +67,7 @@ impl MemDisk {
 
 impl Disk for MemDisk {
     ghost use Rattle.voice_outside.specs.Disk.{Counts, Rests, ReadsAt, WritesAt, Syncs};
-    ghost use Rattle.voice_disk.specs.Memory.{mem_told, FailsAsListed};
+    ghost use Rattle.voice_disk.specs.Memory.{mem_told, starved_calls, FailsAsListed, StarvesOnce, HasSpare};
     ghost use Rattle.voice_disk.specs.Laws.{since_earlier, since_bytes, sized_bytes};
 
     ghost told = { mem_told };
@@ -91,6 +92,9 @@ impl Disk for MemDisk {
         ensures spent { IsTrue (mem_told self.old).honest → 2 ^ 64 - 1 ≤ (mem_told self.old).calls → Rests (mem_told self.old) (mem_told self.new) }
         ensures content { IsTrue (mem_told self.old).honest → ReadsAt at (length into.old) (mem_told self.old) (mem_told self.new) into.new result }
         ensures exactly { FailsAsListed self.old self.new result }
+        ensures faults { (mem_told self.new).faults ≡ faults_after (is_err result) (mem_told self.old).faults }
+        ensures starved { StarvesOnce self.old self.new result }
+        ensures spare { HasSpare self.old → starved_calls self.new ≡ starved_calls self.old }
     {
         if self.calls == u64::MAX {
             self.faults = self.faults.saturating_add(1);
@@ -100,7 +104,9 @@ impl Disk for MemDisk {
         let done = !self.fails.contains(&number);
         if keep(&mut self.log, number, Made::Read(done)).is_err() {
             self.calls = number;
-            self.starved += 1;
+            if done {
+                self.starved += 1;
+            }
             self.faults = self.faults.saturating_add(1);
             return Err(Failed);
         }
@@ -120,6 +126,8 @@ impl Disk for MemDisk {
         ensures spent { IsTrue (mem_told self.old).honest → 2 ^ 64 - 1 ≤ (mem_told self.old).calls → Rests (mem_told self.old) (mem_told self.new) }
         ensures content { IsTrue (mem_told self.old).honest → WritesAt at bytes.now (mem_told self.old) (mem_told self.new) result }
         ensures exactly { FailsAsListed self.old self.new result }
+        ensures faults { (mem_told self.new).faults ≡ faults_after (is_err result) (mem_told self.old).faults }
+        ensures starved { StarvesOnce self.old self.new result }
         ensures failing { OnErr result ((mem_told self.new).bytes ≡ (mem_told self.old).bytes) }
     {
         if self.calls == u64::MAX {
@@ -130,7 +138,9 @@ impl Disk for MemDisk {
         let done = !self.fails.contains(&number);
         if keep_write(self.alloc, &mut self.log, number, at, bytes, done).is_err() {
             self.calls = number;
-            self.starved += 1;
+            if done {
+                self.starved += 1;
+            }
             self.faults = self.faults.saturating_add(1);
             return Err(Failed);
         }
@@ -148,6 +158,9 @@ impl Disk for MemDisk {
         ensures spent { IsTrue (mem_told self.old).honest → 2 ^ 64 - 1 ≤ (mem_told self.old).calls → Rests (mem_told self.old) (mem_told self.new) }
         ensures content { IsTrue (mem_told self.old).honest → Syncs (mem_told self.old) (mem_told self.new) result }
         ensures exactly { FailsAsListed self.old self.new result }
+        ensures faults { (mem_told self.new).faults ≡ faults_after (is_err result) (mem_told self.old).faults }
+        ensures starved { StarvesOnce self.old self.new result }
+        ensures spare { HasSpare self.old → starved_calls self.new ≡ starved_calls self.old }
     {
         if self.calls == u64::MAX {
             self.faults = self.faults.saturating_add(1);
@@ -157,7 +170,9 @@ impl Disk for MemDisk {
         let done = !self.fails.contains(&number);
         if keep(&mut self.log, number, Made::Sync(done)).is_err() {
             self.calls = number;
-            self.starved += 1;
+            if done {
+                self.starved += 1;
+            }
             self.faults = self.faults.saturating_add(1);
             return Err(Failed);
         }

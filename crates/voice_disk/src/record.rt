@@ -1,6 +1,7 @@
 //! The calls that a disk in memory keeps.
 
-ghost use Rattle.std.specs.Prelude.{◌≡◌, ◌+◌, ◌≤◌, [], ◌∷◌, ◌++◌, length, OnOk, OnErr, replicate};
+ghost use Rattle.std.specs.Prelude.{◌≡◌, ◌+◌, ◌≤◌, [], ◌∷◌, ◌++◌, length, OnOk, OnErr, replicate, vec_len};
+ghost use Rattle.std.specs.Vec.{vec_capacity};
 ghost use Rattle.voice_disk.specs.Bytes.{over};
 
 use std::alloc::{AllocError, Global};
@@ -65,6 +66,7 @@ pub fn keep_write(
 pub fn keep(log: &mut Vec<Entry>, number: u64, made: Made) -> Result<(), AllocError>
     ensures ok { OnOk result (log.new.items ≡ log.old.items ++ record { number = number; made = made } ∷ []) }
     ensures err { OnErr result (log.new.items ≡ log.old.items) }
+    ensures full { OnErr result (vec_capacity log.old ≤ vec_len log.old) }
 {
     log.push(Entry { number, made })?;
     Ok(())

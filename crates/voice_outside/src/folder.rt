@@ -42,7 +42,7 @@ impl<'a, R: Files + AllocGlobal> FolderShelf<'a, R> {
             if n == 0 {
                 break;
             }
-            if bytes.len() >= MOST_BYTES {
+            if n > MOST_BYTES.saturating_sub(bytes.len()) {
                 return Err(io::Error::from(ErrorKind::FileTooLarge));
             }
             bytes.extend_from_slice(&buffer[..n])?;

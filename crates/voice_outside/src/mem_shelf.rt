@@ -3,7 +3,8 @@
 ghost use Rattle.std.specs.Prelude.{ℕ, List, Option, Some, None, ◌≡◌, ◌≤◌, ◌+◌, ◌<◌, ◌↔◌, map, length, MatchOption, IsErrOf, IfOk, IfSome, OnOk, OnErr, is_some, Contains, [], true};
 ghost use Rattle.std.specs.FinMap as files;
 ghost use Rattle.voice_outside.specs.Files.{named, found, SameElsewhere};
-ghost use Rattle.voice_outside.specs.Causes.{HasCause};
+ghost use Rattle.voice_outside.specs.Counters.{next_count, faults_after};
+ghost use Rattle.voice_outside.specs.Causes.{HasCause, is_failed};
 ghost use Rattle.voice_outside.specs.Memory.{FailsAsListed};
 
 use crate::errors::OutsideError;
@@ -69,7 +70,15 @@ impl Shelf for MemShelf {
 
     ghost faults = { λ s. s.faults };
 
-    fn get(&mut self, name: &Name) -> Result<Option<Vec<u8>>, OutsideError> {
+    fn get(&mut self, name: &Name) -> Result<Option<Vec<u8>>, OutsideError>
+        ensures told { IfOk result (λ found. MatchOption found (files.get self.old.files name.now ≡ None) (λ v. files.get self.old.files name.now ≡ Some v.items)) }
+        ensures kept { self.new.files ≡ self.old.files }
+        ensures cause { HasCause self.old.faults self.new.faults result }
+        ensures exactly { FailsAsListed self.old.fails self.old.calls result }
+        ensures calls { self.new.calls ≡ next_count self.old.calls }
+        ensures faults { self.new.faults ≡ faults_after (is_failed result) self.old.faults }
+        ensures fails { self.new.fails ≡ self.old.fails }
+    {
         if next_call_fails(&self.fails, &mut self.calls, &mut self.faults) {
             return Err(OutsideError::Failed);
         }
@@ -80,7 +89,15 @@ impl Shelf for MemShelf {
         Ok(Some(copy))
     }
 
-    fn put(&mut self, name: &Name, bytes: &[u8]) -> Result<(), OutsideError> {
+    fn put(&mut self, name: &Name, bytes: &[u8]) -> Result<(), OutsideError>
+        ensures told { OnOk result (self.new.files ≡ files.insert self.old.files name.now bytes.now) }
+        ensures err { OnErr result (self.new.files ≡ self.old.files) }
+        ensures cause { HasCause self.old.faults self.new.faults result }
+        ensures exactly { FailsAsListed self.old.fails self.old.calls result }
+        ensures calls { self.new.calls ≡ next_count self.old.calls }
+        ensures faults { self.new.faults ≡ faults_after (is_failed result) self.old.faults }
+        ensures fails { self.new.fails ≡ self.old.fails }
+    {
         if next_call_fails(&self.fails, &mut self.calls, &mut self.faults) {
             return Err(OutsideError::Failed);
         }

@@ -1,6 +1,9 @@
 //! A sink in memory, for tests.
 
-ghost use Rattle.std.specs.Prelude.{ℕ, Some, ◌≡◌, []};
+ghost use Rattle.std.specs.Prelude.{ℕ, Some, ◌≡◌, ◌≤◌, [], ◌++◌, length, IfOk, OnOk, OnErr};
+ghost use Rattle.voice_outside.specs.Counters.{next_count, faults_after};
+ghost use Rattle.voice_outside.specs.Causes.{HasCause, is_failed};
+ghost use Rattle.voice_outside.specs.Memory.{FailsAsListed};
 
 use crate::errors::OutsideError;
 use crate::listed::next_call_fails;
@@ -53,7 +56,16 @@ impl Sink for MemSink {
 
     ghost empty_takes = { λ s. 0 };
 
-    fn write(&mut self, bytes: &[u8]) -> Result<usize, OutsideError> {
+    fn write(&mut self, bytes: &[u8]) -> Result<usize, OutsideError>
+        ensures whole { IfOk result (λ n. n ≡ length bytes.now) }
+        ensures told { OnOk result (self.new.held ≡ self.old.held ++ bytes.now) }
+        ensures err { OnErr result (self.new.held ≡ self.old.held) }
+        ensures cause { HasCause self.old.faults self.new.faults result }
+        ensures exactly { FailsAsListed self.old.fails self.old.calls result }
+        ensures calls { self.new.calls ≡ next_count self.old.calls }
+        ensures faults { self.new.faults ≡ faults_after (is_failed result) self.old.faults }
+        ensures fails { self.new.fails ≡ self.old.fails }
+    {
         if next_call_fails(&self.fails, &mut self.calls, &mut self.faults) {
             return Err(OutsideError::Failed);
         }

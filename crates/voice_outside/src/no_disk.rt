@@ -1,7 +1,7 @@
 //! A disk of no size, for a program that has none yet.
 
-ghost use Rattle.std.specs.Prelude.{ℕ, [], ◌≡◌, ◌≤◌, ◌+◌, ◌-◌, ◌^◌, ◌↔◌, true, IsErr, length};
-ghost use Rattle.voice_outside.specs.Counters.{next_count, HasRisen};
+ghost use Rattle.std.specs.Prelude.{ℕ, [], ◌≡◌, ◌≤◌, ◌+◌, ◌-◌, ◌^◌, ◌↔◌, true, IsErr, IsTrue, is_err, length};
+ghost use Rattle.voice_outside.specs.Counters.{next_count, faults_after, HasRisen};
 ghost use Rattle.voice_outside.specs.EmptyDisk.{empty_disk};
 
 use crate::disk::Disk;
@@ -31,6 +31,7 @@ impl NoDisk {
         ensures calls { self.new.calls ≡ next_count self.old.calls }
         ensures later { self.old.calls ≤ self.new.calls }
         ensures spent { IsErr result ↔ (2 ^ 64 - 1 ≤ self.old.calls) }
+        ensures exactly { self.new.faults ≡ faults_after (is_err result) self.old.faults }
         ensures faults { self.old.faults ≤ self.new.faults }
         ensures rose { IsErr result → HasRisen self.old.faults self.new.faults }
     {
@@ -44,6 +45,8 @@ impl NoDisk {
 }
 
 impl Disk for NoDisk {
+    ghost use Rattle.voice_outside.specs.Disk.{Counts, Rests, ReadsAt, WritesAt, Syncs};
+
     ghost told = { λ d. empty_disk d.calls d.faults };
 
     ghost since = { λ d t u image h m. m };
@@ -60,15 +63,35 @@ impl Disk for NoDisk {
         self.calls
     }
 
-    fn read(&mut self, _at: u64, _into: &mut [u8]) -> Result<(), Failed> {
+    fn read(&mut self, at: u64, into: &mut [u8]) -> Result<(), Failed>
+        requires { at + length into.old ≤ (empty_disk self.old.calls self.old.faults).size }
+        ensures counts { Counts (empty_disk self.old.calls self.old.faults) (empty_disk self.new.calls self.new.faults) result }
+        ensures spent { IsTrue (empty_disk self.old.calls self.old.faults).honest → 2 ^ 64 - 1 ≤ (empty_disk self.old.calls self.old.faults).calls → Rests (empty_disk self.old.calls self.old.faults) (empty_disk self.new.calls self.new.faults) }
+        ensures content { IsTrue (empty_disk self.old.calls self.old.faults).honest → ReadsAt at (length into.old) (empty_disk self.old.calls self.old.faults) (empty_disk self.new.calls self.new.faults) into.new result }
+        ensures exactly { IsErr result ↔ (2 ^ 64 - 1 ≤ self.old.calls) }
+        ensures faults { self.new.faults ≡ faults_after (is_err result) self.old.faults }
+    {
         self.count()
     }
 
-    fn write(&mut self, _at: u64, _bytes: &[u8]) -> Result<(), Failed> {
+    fn write(&mut self, at: u64, bytes: &[u8]) -> Result<(), Failed>
+        requires { at + length bytes.now ≤ (empty_disk self.old.calls self.old.faults).size }
+        ensures counts { Counts (empty_disk self.old.calls self.old.faults) (empty_disk self.new.calls self.new.faults) result }
+        ensures spent { IsTrue (empty_disk self.old.calls self.old.faults).honest → 2 ^ 64 - 1 ≤ (empty_disk self.old.calls self.old.faults).calls → Rests (empty_disk self.old.calls self.old.faults) (empty_disk self.new.calls self.new.faults) }
+        ensures content { IsTrue (empty_disk self.old.calls self.old.faults).honest → WritesAt at bytes.now (empty_disk self.old.calls self.old.faults) (empty_disk self.new.calls self.new.faults) result }
+        ensures exactly { IsErr result ↔ (2 ^ 64 - 1 ≤ self.old.calls) }
+        ensures faults { self.new.faults ≡ faults_after (is_err result) self.old.faults }
+    {
         self.count()
     }
 
-    fn sync(&mut self) -> Result<(), Failed> {
+    fn sync(&mut self) -> Result<(), Failed>
+        ensures counts { Counts (empty_disk self.old.calls self.old.faults) (empty_disk self.new.calls self.new.faults) result }
+        ensures spent { IsTrue (empty_disk self.old.calls self.old.faults).honest → 2 ^ 64 - 1 ≤ (empty_disk self.old.calls self.old.faults).calls → Rests (empty_disk self.old.calls self.old.faults) (empty_disk self.new.calls self.new.faults) }
+        ensures content { IsTrue (empty_disk self.old.calls self.old.faults).honest → Syncs (empty_disk self.old.calls self.old.faults) (empty_disk self.new.calls self.new.faults) result }
+        ensures exactly { IsErr result ↔ (2 ^ 64 - 1 ≤ self.old.calls) }
+        ensures faults { self.new.faults ≡ faults_after (is_err result) self.old.faults }
+    {
         self.count()
     }
 }

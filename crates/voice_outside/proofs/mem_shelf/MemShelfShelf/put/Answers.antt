@@ -10,4 +10,4 @@ pub returns-in_err-insert-clause-err : goal.returns-in_err-insert-clause-err
 returns-in_err-insert-clause-err c =
     let p = err_from_is_err_and c.from_residual-in_err-insert.result c.from_residual-in_err-insert.ensures.1 in
     let same : c.insert.new.self.items ≡ c.self.inside.files.items = search rules in
-    rw p.1 (λ other _. ap (λ files. get (from_entries {R = slice_cmp nat_cmp} (named files)) other) same ∙ ap (λ s. get s.files other) c.self.view_is)
+    rw p.1 (ap (λ files. from_entries {R = slice_cmp nat_cmp} (named files)) same ∙ ap (λ s. s.files) c.self.view_is)
