@@ -104,10 +104,11 @@ impl Disk for MemDisk {
         let done = !self.fails.contains(&number);
         if keep(&mut self.log, number, Made::Read(done)).is_err() {
             self.calls = number;
-            if done {
-                self.starved += 1;
-            }
             self.faults = self.faults.saturating_add(1);
+            if !done {
+                return Err(Failed);
+            }
+            self.starved += 1;
             return Err(Failed);
         }
         self.calls = number;
@@ -138,10 +139,11 @@ impl Disk for MemDisk {
         let done = !self.fails.contains(&number);
         if keep_write(self.alloc, &mut self.log, number, at, bytes, done).is_err() {
             self.calls = number;
-            if done {
-                self.starved += 1;
-            }
             self.faults = self.faults.saturating_add(1);
+            if !done {
+                return Err(Failed);
+            }
+            self.starved += 1;
             return Err(Failed);
         }
         self.calls = number;
@@ -170,10 +172,11 @@ impl Disk for MemDisk {
         let done = !self.fails.contains(&number);
         if keep(&mut self.log, number, Made::Sync(done)).is_err() {
             self.calls = number;
-            if done {
-                self.starved += 1;
-            }
             self.faults = self.faults.saturating_add(1);
+            if !done {
+                return Err(Failed);
+            }
+            self.starved += 1;
             return Err(Failed);
         }
         self.calls = number;

@@ -19,3 +19,4 @@ pub mod ShapesRead
 pub mod Doubts
 pub mod Putting
 pub mod Formats
+pub mod Damages

@@ -1,6 +1,6 @@
 //! Opens a journal.
 
-ghost use Rattle.std.specs.Prelude.{◌≡◌, ◌+◌, ◌≤◌, ◌<◌, ◌^◌, ℕ, List, length, vec_len, not, IsTrue, IsErrOf, IfOk, IfErr, OnOk, None, Some, MatchResult};
+ghost use Rattle.std.specs.Prelude.{◌≡◌, ◌+◌, ◌≤◌, ◌<◌, ◌^◌, ℕ, List, length, vec_len, not, IsTrue, IsErrOf, IsErrAnd, IfOk, IfErr, OnOk, None, Some, MatchResult};
 ghost use Rattle.voice_outside.specs.Disk.{Now, segment};
 ghost use Rattle.voice_outside.specs.Counters.{HasRisen};
 ghost use Rattle.voice_journal.specs.Image.{Journal as Reading};
@@ -9,7 +9,7 @@ ghost use Rattle.voice_journal.specs.Readings.{Reads, extent};
 ghost use Rattle.voice_journal.specs.Places.{area_start};
 ghost use Rattle.voice_journal.specs.Parsed.{head_of, IsOther};
 ghost use Rattle.voice_journal.specs.Looks.{Looks, Since};
-ghost use Rattle.voice_journal.specs.Opens.{IfBad, IsOpened};
+ghost use Rattle.voice_journal.specs.Opens.{IfBad, IsBadAt, IsOpened};
 
 use crate::device::{read_part, settle};
 use crate::errors::OpenError;
@@ -96,6 +96,7 @@ impl Journal {
         ensures since { IsTrue (D.told disk.old).honest → OnOk result (Since ((D.told disk.old).calls + 1) (D.told disk.new) (λ image. image ≡ (D.told disk.old).bytes)) }
         ensures reads { IsTrue (D.told disk.old).honest → IfOk result (λ opened. (r : Reading) × IsOpened (D.told disk.old).bytes (D.told disk.new) opened r) }
         ensures bad { IsTrue (D.told disk.old).honest → IfErr result (IfBad (D.told disk.old).bytes) }
+        ensures damaged { IsTrue (D.told disk.old).honest → (place : ℕ) → journal_in (D.told disk.old).bytes ≡ JournalReading.Damaged place → IsErrAnd result (IsBadAt place) }
     {
         let shape = read_shape(disk)?;
         let current = read_current(disk, &shape)?;

@@ -5,14 +5,20 @@ use Rattle.voice_disk.specs.Over.{length-over}
 use Rattle.voice_disk.proofs.Calls.{pushed, on_ok, write_done, write_failed, write_starved}
 use Rattle.voice_disk.proofs.memory.MemDiskDisk.write.Goals as goal
 
+pub returns-then-not-done-clause-content : goal.returns-then-not-done-clause-content
+returns-then-not-done-clause-content c =
+    let d = c.args.self.now in
+    let same : c.keep_write.new.log.items ≡ d.log.items = search rules in
+    λ honest. write_starved d.first.items (reverse d.log.items) d.calls d.faults _ d.bytes.items d.numbered _ c.args.bytes.now c.args.at _ (ap reverse same)
+
 pub returns-then-is_err-clause-content : goal.returns-then-is_err-clause-content
 returns-then-is_err-clause-content c =
     let d = c.args.self.now in
     let same : c.keep_write.new.log.items ≡ d.log.items = search rules in
     λ honest. write_starved d.first.items (reverse d.log.items) d.calls d.faults _ d.bytes.items d.numbered _ c.args.bytes.now c.args.at _ (ap reverse same)
 
-pub returns-then-not-done-clause-content : goal.returns-then-not-done-clause-content
-returns-then-not-done-clause-content c =
+pub returns-then-not-done-2-clause-content : goal.returns-then-not-done-2-clause-content
+returns-then-not-done-2-clause-content c =
     let d = c.args.self.now in
     let kept = on_ok c.keep_write.result _ (sym c.is_err.ensures.value ∙ c.if-is_err.false) c.keep_write.ensures.ok in
     λ honest. write_failed d.first.items (reverse d.log.items) d.calls d.faults _ d.bytes.items d.numbered _ c.args.bytes.now c.args.at kept.0 _ _ kept.1 (pushed d.log.items _ _ kept.2)

@@ -12,6 +12,7 @@ use Rattle.voice_journal.specs.declared.parsing.Parsed.{Parsed}
 use Rattle.voice_journal.specs.declared.parsing.Parsed.TheVariants.{Sound, Broken}
 use Rattle.voice_journal.proofs.Steps.{on_ok}
 use Rattle.voice_journal.proofs.Areas.{reads_opened, other_opened}
+use Rattle.voice_journal.proofs.Damages.{same_place, stands_not}
 use Rattle.voice_journal.proofs.seats.Journal.open.Goals as goal
 
 pub overflow_add-result : goal.overflow_add-result
@@ -111,3 +112,12 @@ returns-in-Sound-clause-reads g c =
         };
       },
     )
+
+pub returns-in-Broken-clause-damaged : goal.returns-in-Broken-clause-damaged
+returns-in-Broken-clause-damaged g c = λ honest place is. same_place _ place (sym (returns-in-Broken-clause-bad g c honest _ refl) ∙ is)
+
+pub returns-in-Sound-clause-damaged : goal.returns-in-Sound-clause-damaged
+returns-in-Sound-clause-damaged g c =
+    λ honest place is.
+    let opened = returns-in-Sound-clause-reads g c honest in
+    absurd (stands_not opened.0 place (sym opened.1.reads ∙ is))
