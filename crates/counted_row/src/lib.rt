@@ -3,6 +3,7 @@
 
 mod chunk;
 mod row;
+mod search;
 mod steps;
 #[cfg(test)]
 mod tests;

@@ -1,10 +1,14 @@
 //! The row, and how its chunks are kept half full.
 
 ghost use Rattle.std.specs.Prelude.{◌≡◌, ℕ, List, ◌+◌, ◌-◌, ◌*◌, ◌^◌, ◌<◌, ◌≤◌, [], ◌∷◌, ◌++◌, length, take, drop, slice_get, slice_set, slice_index_or, insert, remove, option_copied, IfSome, OnSome, IfNone, IfOk, OnOk, OnErr, IsOk, min};
+ghost use Rattle.std.specs.Prelude.{Bool, true, false};
+ghost use Rattle.std.specs.Fn.{ComputesKey};
+ghost use Rattle.std.specs.List.Sorted.{IsPartitionedBy, IsPartitionPoint};
 ghost use Rattle.std.specs.Vec.{vec_capacity};
 ghost use Rattle.counted_row.specs.Row.{flat, IsDense, AreEmpty, Stands, room_of};
 
 use crate::chunk::{CHUNK, Chunk, HALF};
+use crate::search::point_in;
 use crate::steps::{
     Spot, borrow_at, exchange, fill_stock, merge_at, open_last, put_in, split_at, spot_of, take_out,
 };
@@ -182,6 +186,15 @@ impl<T: Drop> CountedRow<T> {
             return None;
         };
         self.chunks[spot.chunk].get(spot.place)
+    }
+
+    /// How many values in front pass a test, where none passes it behind one that fails it. It looks at the first values of chunks, and then into one chunk.
+    pub fn partition_point<P: FnMut(&T) -> bool>(&self, pred: P) -> usize
+        requires { P.IsAlwaysCallable pred }
+        ensures bound { result ≤ length self.now.items }
+        ensures partitioned { (p : T → Bool) → ComputesKey P.FnMut p pred → IsPartitionedBy p self.now.items → IsPartitionPoint (λ y. p y ≡ true) (λ y. p y ≡ false) self.now.items result }
+    {
+        point_in(&self.chunks, pred)
     }
 
     /// Values that lie side by side from the k-th on, at least one, if there is a k-th. Runs that follow one another go over all values in order.
