@@ -1,11 +1,11 @@
 -- A search over chunks: what lies in front of it passes, what lies behind it does not.
-use Rattle.std.proofs.Common.{◌≡◌, ℕ, suc, zero, Bool, true, false, None, inl, inr, ◌⊎◌, ◌+◌, ◌-◌, ◌<◌, ◌≤◌, length, List, [], ◌∷◌, ◌++◌, take, drop, get_or, Some, slice_get, refl, ap, sym, ◌∙◌, subst, arith, length-append}
+use Rattle.std.proofs.Common.{◌≡◌, ℕ, suc, zero, Bool, true, false, None, inl, inr, ◌⊎◌, ◌+◌, ◌-◌, ◌<◌, ◌≤◌, length, List, [], ◌∷◌, ◌++◌, take, drop, get_or, Some, slice_get, refl, ap, sym, ◌∙◌, arith, length-append}
 use denote.Param.Members.{Mut}
 use Rattle.std.specs.Fn.{Called, AlwaysReturns}
 use Rattle.std.specs.List.{AllWithin}
 use Rattle.std.specs.List.Sorted.{IsPartitionedBy, IsPartitionPoint}
 use Rattle.counted_row.specs.Row.{flat, IsDense, Stands}
-use Rattle.counted_row.proofs.Flat.{flat-at, flat-take_more, stands-within, dense-at}
+use Rattle.counted_row.proofs.Flat.{flat-at, flat-take_more, stands-within}
 
 -- how many values the chunks in front of one have
 abbrev pub start : {X : Type 0} → List (List X) → ℕ → ℕ

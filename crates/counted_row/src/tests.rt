@@ -76,3 +76,22 @@ fn values_go_oldest_first(rt: HostRuntime) -> Result<(), Fail> {
     assert_eq!(rt; row.remove(0).is_none(), true);
     Ok(())
 }
+
+fn points(row: &CountedRow<u64>) -> [usize; 4] {
+    [
+        row.partition_point(|value| *value < 0),
+        row.partition_point(|value| *value < 1),
+        row.partition_point(|value| *value < 1500),
+        row.partition_point(|value| *value < 9000),
+    ]
+}
+
+// A place in front, one inside, and the end.
+#[test]
+fn values_are_searched(rt: HostRuntime) -> Result<(), Fail> {
+    let row = pushed(rt.alloc(), 3000)?;
+    assert_eq!(rt; points(&row), [0, 1, 1500, 3000]);
+    let none = pushed(rt.alloc(), 0)?;
+    assert_eq!(rt; points(&none), [0, 0, 0, 0]);
+    Ok(())
+}

@@ -1,8 +1,8 @@
-use Rattle.std.proofs.Common.{arith, rules, of_calls, ◌≡◌, ◌+◌, ◌-◌, ◌/◌, ◌<◌, ◌≤◌, [], None, Some, length, get_or, slice_get, refl, sym, ap, subst, ◌∙◌, true, false}
+use Rattle.std.proofs.Common.{arith, rules, of_calls, ◌≡◌, ◌+◌, ◌-◌, ◌/◌, ◌<◌, ◌≤◌, [], None, Some, length, get_or, slice_get, sym, ap, subst, ◌∙◌, true, false}
 use Rattle.std.specs.List.Sorted.{IsPartitionedBy, IsPartitionPoint}
 use Rattle.counted_row.specs.Row.{flat}
 use Rattle.counted_row.proofs.Flat.{at-index}
-use Rattle.counted_row.proofs.Points.{answers_next, Halved, start, start-within, whole, chunk-passes, chunk-fails-up, chunk-empty-up, parts-in, point-in}
+use Rattle.counted_row.proofs.Points.{answers_next, Halved, start, start-within, chunk-passes, chunk-fails-up, chunk-empty-up, parts-in, point-in}
 use Rattle.counted_row.proofs.search.point_in.Goals as goal
 
 pub loop-size-preserved-in_default : goal.loop-size-preserved-in_default
@@ -12,9 +12,12 @@ loop-size-preserved-in_default g c =
     let here : c.index.result.now ≡ get_or cs mid [] = at-index cs mid c.index.result.now within c.index.ensures in
     let none : slice_get c.index.result.now 0 ≡ None = search rules in
     let empty : slice_get (get_or cs mid []) 0 ≡ None = ap (λ l. slice_get l 0) (sym here) ∙ none in
-    let next : mid ≤ base + (size - size / 2) = omega arith in
-    (omega (arith, c.loop-size-test.true), omega (arith, c.loop-size.invariant.1), c.loop-size.invariant.2,
-      λ p computes parts. let i = c.loop-size.invariant.3 p computes parts in (i.0, chunk-empty-up p cs (start cs base) (start cs (base + size)) mid (base + (size - size / 2)) within next c.requires.dense empty i.1))
+    let next : mid ≤ base + (size - size / 2) = omega arith in (
+      omega (arith, c.loop-size-test.true),
+      omega (arith, c.loop-size.invariant.1),
+      c.loop-size.invariant.2,
+      λ p computes parts. let i = c.loop-size.invariant.3 p computes parts in (i.0, chunk-empty-up p cs (start cs base) (start cs (base + size)) mid (base + (size - size / 2)) within next c.requires.dense empty i.1),
+    )
 
 pub loop-size-preserved-then-pred : goal.loop-size-preserved-then-pred
 loop-size-preserved-then-pred g c =
@@ -24,10 +27,13 @@ loop-size-preserved-then-pred g c =
     let here : c.index.result.now ≡ get_or cs mid [] = at-index cs mid c.index.result.now within c.index.ensures in
     let some : slice_get c.index.result.now 0 ≡ Some c.in-Some.first.now = search rules in
     let first : slice_get (get_or cs mid []) 0 ≡ Some c.in-Some.first.now = ap (λ l. slice_get l 0) (sym here) ∙ some in
-    let same : base + size ≡ mid + (size - size / 2) = omega arith in
-    (omega (arith, c.loop-size-test.true), omega (arith, c.loop-size.invariant.1), search of_calls,
+    let same : base + size ≡ mid + (size - size / 2) = omega arith in (
+      omega (arith, c.loop-size-test.true),
+      omega (arith, c.loop-size.invariant.1),
+      search of_calls,
       λ p computes parts. let i = c.loop-size.invariant.3 p computes parts in let n = answers_next g.P.FnMut _ _ _ _ _ k i.0 in
-      (n.1, subst (λ m. Halved p (flat cs) (start cs mid) (start cs m)) same (chunk-passes p cs (start cs base) (start cs (base + size)) mid c.in-Some.first.now within first (sym n.0) parts i.1)))
+          (n.1, subst (λ m. Halved p (flat cs) (start cs mid) (start cs m)) same (chunk-passes p cs (start cs base) (start cs (base + size)) mid c.in-Some.first.now within first (sym n.0) parts i.1)),
+    )
 
 pub loop-size-preserved : goal.loop-size-preserved
 loop-size-preserved g c =
@@ -37,10 +43,13 @@ loop-size-preserved g c =
     let here : c.index.result.now ≡ get_or cs mid [] = at-index cs mid c.index.result.now within c.index.ensures in
     let some : slice_get c.index.result.now 0 ≡ Some c.in-Some.first.now = search rules in
     let first : slice_get (get_or cs mid []) 0 ≡ Some c.in-Some.first.now = ap (λ l. slice_get l 0) (sym here) ∙ some in
-    let next : mid ≤ base + (size - size / 2) = omega arith in
-    (omega (arith, c.loop-size-test.true), omega (arith, c.loop-size.invariant.1), search of_calls,
+    let next : mid ≤ base + (size - size / 2) = omega arith in (
+      omega (arith, c.loop-size-test.true),
+      omega (arith, c.loop-size.invariant.1),
+      search of_calls,
       λ p computes parts. let i = c.loop-size.invariant.3 p computes parts in let n = answers_next g.P.FnMut _ _ _ _ _ k i.0 in
-      (n.1, chunk-fails-up p cs (start cs base) (start cs (base + size)) mid (base + (size - size / 2)) c.in-Some.first.now within next first (sym n.0) parts i.1))
+          (n.1, chunk-fails-up p cs (start cs base) (start cs (base + size)) mid (base + (size - size / 2)) c.in-Some.first.now within next first (sym n.0) parts i.1),
+    )
 
 pub overflow_add-result : goal.overflow_add-result
 overflow_add-result g c =
