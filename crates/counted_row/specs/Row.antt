@@ -1,0 +1,48 @@
+-- What a row holds.
+--     Row      the values in order, and how many more fit without memory
+--     flat     the values of chunks, one chunk after another
+--     IsDense  each chunk but the last is half full
+--     AreEmpty each chunk is empty
+--     room_of  how many values so many chunks hold for certain
+--     IsRow    the parts of a row fit together
+use Rattle.std.specs.Prelude.{◌≡◌, ℕ, ◌+◌, ◌*◌, ◌^◌, ◌<◌, ◌≤◌, min, List, [], ◌∷◌, ◌++◌, length, take, slice_index_or, refl}
+use Rattle.std.specs.Coded.{Coded, code_by, coded×, coded_list, coded_ℕ}
+
+pub record Row (X : Type 0) : Type 0 where
+  pub items : List X
+  pub spare : ℕ
+
+abbrev pub row_code : {X : Type 0} → Coded X → Coded (Row X)
+row_code {X} code = code_by (List X × ℕ) (coded× (coded_list code) coded_ℕ) (λ r. (r.items, r.spare)) (λ p. record { items = p.0; spare = p.1 }) (λ _. refl)
+
+-- the values of chunks, one chunk after another
+abbrev pub flat : {X : Type 0} → List (List X) → List X
+flat [] = []
+flat (c ∷ cs) = c ++ flat cs
+
+-- each chunk but the last is half full
+abbrev pub IsDense : {X : Type 0} → List (List X) → Type 0
+IsDense [] = Unit {0}
+IsDense (c ∷ cs) = (0 < length cs → 128 ≤ length c) × IsDense cs
+
+-- each chunk is empty
+abbrev pub AreEmpty : {X : Type 0} → List (List X) → Type 0
+AreEmpty [] = Unit {0}
+AreEmpty (c ∷ cs) = (c ≡ []) × AreEmpty cs
+
+-- how many values so many chunks hold for certain
+abbrev pub room_of : ℕ → ℕ
+room_of n = min (128 * n) (2 ^ 48)
+
+-- the parts of a row fit together
+pub record IsRow {X : Type 0} (chunks : List (List X)) (chunk_room : ℕ) (stock : List (List X)) (stock_room len : ℕ) : Type 0 where
+  pub counted : len ≡ length (flat chunks)
+  pub dense : IsDense chunks
+  pub empty : AreEmpty stock
+  pub chunks_fit : length chunks + length stock ≤ chunk_room
+  pub stock_fits : length chunks + length stock ≤ stock_room
+  pub fits : len ≤ room_of (length chunks + length stock)
+
+-- the k-th value stands at this place of this chunk
+abbrev pub Stands : {X : Type 0} → List (List X) → ℕ → ℕ → ℕ → Type 0
+Stands cs i place k = (i < length cs) × (place < length (slice_index_or cs i [])) × (k ≡ length (flat (take i cs)) + place)

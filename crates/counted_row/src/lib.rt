@@ -1,0 +1,11 @@
+//! A list in chunks of bounded size, so that a value goes in and out in the middle without moving all later ones.
+#![tactic(auto)]
+
+mod chunk;
+mod row;
+mod search;
+mod steps;
+#[cfg(test)]
+mod tests;
+
+pub use row::CountedRow;
