@@ -1,10 +1,10 @@
 -- The stretches of runs of places.
-use Rattle.std.proofs.Common.{◌≡◌, ℕ, zero, suc, ◌+◌, ◌-◌, ◌*◌, ◌/◌, ◌%◌, ◌<◌, ◌≤◌, ◌^◌, Bool, true, false, ◌&&◌, not, cond, ◌==◌, min, List, [], ◌∷◌, ◌++◌, length, drop, take, refl, sym, ◌∙◌, ap, ap₂, subst, arith, eq-eqb, add-zero}
-use Rattle.std.proofs.lemmas.Bool.{eqb-true, ne_eqb}
+use Rattle.std.proofs.Common.{◌≡◌, ℕ, zero, suc, ◌+◌, ◌-◌, ◌*◌, ◌/◌, ◌%◌, ◌<◌, ◌≤◌, Bool, true, false, ◌&&◌, not, cond, ◌==◌, min, List, [], ◌∷◌, ◌++◌, refl, sym, ◌∙◌, ap, ap₂, subst, arith, eq-eqb, add-zero}
+use Rattle.std.proofs.lemmas.Bool.{ne_eqb}
 use Rattle.std.proofs.lemmas.Nat.{mod-mul-add}
 use Rattle.std.proofs.Math.Nat.{mod-add-div', add-mul-mod_self_right, mod_self, mod-lt}
 use Rattle.voice_units.specs.declared.pieces.Piece.{Piece}
-use Rattle.voice_units.specs.Spots.{Spot, spots_from, spots_in, spots_of, samples_in, comes_before, lone, longer, in_front, runs, begins_block, stretches}
+use Rattle.voice_units.specs.Spots.{Spot, spots_from, comes_before, lone, longer, in_front, runs, begins_block, stretches}
 use Rattle.voice_units.proofs.PiecesOfRopes.{spots_from-add}
 
 -- ---- runs of two lists, of which the second does not go on where the first one ends

@@ -2,3 +2,4 @@ pub mod Parts
 pub mod Joins
 pub mod Blocks
 pub mod Stretched
+pub mod Begun

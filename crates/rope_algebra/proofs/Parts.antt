@@ -1,10 +1,9 @@
 -- Parts of lists and of pieces.
-use Rattle.std.proofs.Common.{◌≡◌, ℕ, zero, suc, ◌+◌, ◌-◌, ◌<◌, ◌≤◌, ◌^◌, ◌⊎◌, inl, inr, min, get_or, List, [], ◌∷◌, ◌++◌, length, take, drop, refl, sym, ◌∙◌, ap, ap₂, subst, arith, append_assoc}
-use Rattle.std.proofs.lemmas.List.{length-take, length-drop, length-append, append-nil, drop_all, take_all, drop_more}
+use Rattle.std.proofs.Common.{◌≡◌, ℕ, zero, suc, ◌+◌, ◌-◌, ◌<◌, ◌≤◌, min, get_or, List, [], ◌∷◌, ◌++◌, length, take, drop, refl, sym, ◌∙◌, ap, ap₂, arith}
+use Rattle.std.proofs.lemmas.List.{length-take, length-drop, length-append, take_all, drop_more}
 use Rattle.voice_units.specs.declared.pieces.Piece.{Piece}
-use Rattle.voice_units.specs.Spots.{Spot, spots_from, spots_in, spots_of, samples_in, slice, IsContinued, IsNormal, pieces_of}
-use Rattle.voice_units.proofs.PiecesOfRopes.{length-spots_from, take-spots_from, drop-spots_from, spots_of-append}
-use Rattle.rope_algebra.specs.Kept.{LieInFiles}
+use Rattle.voice_units.specs.Spots.{spots_from, spots_in, spots_of, samples_in, slice, IsNormal}
+use Rattle.voice_units.proofs.PiecesOfRopes.{length-spots_from}
 
 -- ---- lists
 

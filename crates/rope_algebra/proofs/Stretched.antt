@@ -1,7 +1,7 @@
 -- Counting the stretches of a run, and the samples of a window.
 use Rattle.std.proofs.Common.{◌≡◌, ℕ, zero, suc, ◌+◌, ◌-◌, ◌%◌, ◌<◌, ◌≤◌, ◌↔◌, ◌⊎◌, inl, inr, cond, Bool, true, false, ◌&&◌, not, ◌==◌, min, List, [], ◌∷◌, ◌++◌, length, drop, take, get_or, refl, sym, ◌∙◌, ap, ap₂, subst, arith}
 use Rattle.std.proofs.lemmas.Bool.{eqb-true}
-use Rattle.std.proofs.lemmas.List.{take_all, drop_all, length-drop}
+use Rattle.std.proofs.lemmas.List.{take_all, length-drop}
 use Rattle.voice_units.specs.declared.pieces.Piece.{Piece}
 use Rattle.voice_units.specs.Spots.{Spot, spots_from, spots_in, spots_of, samples_in, slice, in_front, runs, lone, longer, IsContinued, IsNormal, comes_before, begins_block, stretches, window}
 use Rattle.voice_units.proofs.PiecesOfRopes.{length-spots_from}

@@ -3,6 +3,9 @@
 --     IsKept ps      normal form inside the voice files
 --     IsRope ps      so are the pieces of a rope, and its samples fit 32 bits
 --     IsCounted ps n      the pieces of a rope of n samples
+--     starts_from n ps      where pieces start behind n samples
+--     first_len ps      the length of the first piece
+--     IsPlaced ps starts n      the pieces of a rope of n samples, and where each starts
 --     AddsSpots old new ss      what keeps stays, and these places come behind
 use Rattle.std.specs.Prelude.{◌≡◌, ℕ, ◌+◌, ◌<◌, ◌≤◌, ◌^◌, List, [], ◌∷◌, ◌++◌}
 use Rattle.voice_units.specs.declared.pieces.Piece.{Piece}
@@ -30,6 +33,24 @@ pub record IsCounted (ps : List Piece) (n : ℕ) : Type 0 where
   pub ends : LieInFiles ps
   pub total : n ≡ samples_in ps
   pub fits : n < 2 ^ 32
+
+-- how many samples stand before each piece, behind n samples
+abbrev pub starts_from : ℕ → List Piece → List ℕ
+starts_from n [] = []
+starts_from n (p ∷ ps) = n ∷ starts_from (n + p.len) ps
+
+-- how long the first piece is, 0 where there is none
+abbrev pub first_len : List Piece → ℕ
+first_len [] = 0
+first_len (p ∷ ps) = p.len
+
+-- the pieces of a rope of n samples, and where each starts
+pub record IsPlaced (ps : List Piece) (starts : List ℕ) (n : ℕ) : Type 0 where
+  pub normal : IsNormal ps
+  pub ends : LieInFiles ps
+  pub total : n ≡ samples_in ps
+  pub fits : n < 2 ^ 32
+  pub placed : starts ≡ starts_from 0 ps
 
 -- the new pieces are kept, and name the places of the old ones and then these
 pub record AddsSpots (old new : List Piece) (ss : List Spot) : Type 0 where

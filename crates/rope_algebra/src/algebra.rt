@@ -2,34 +2,34 @@
 
 ghost use Rattle.std.specs.Prelude.{◌≡◌, ℕ, ◌+◌, ◌-◌, ◌%◌, ◌<◌, ◌≤◌, ◌^◌, ◌↔◌, [], ◌++◌, IfOk, length, slice_get};
 ghost use Rattle.voice_units.specs.Spots.{spots_in, spots_of, pieces_of, samples_in, slice, replaced, window};
-ghost use Rattle.rope_algebra.specs.Kept.{IsKept, LieInFiles, IsRope};
+ghost use Rattle.rope_algebra.specs.Kept.{IsKept, LieInFiles, IsRope, IsCounted};
 
 use super::cuts::{join, join_slice, part_of};
-use super::runs::first_stretches;
+use super::runs::window_of;
+use super::starts::{Rest, rest_at, starts_of};
 use std::alloc::Global;
 use std::marker::Model;
 use voice_units::{NoMemory, Piece};
-
-/// The most stretches that a window has.
-const WINDOW_STRETCHES: u32 = 4;
 
 /// The pieces of a rope. Contracts see the list of pieces, which is in normal form: none is empty, and none is continued by the next one.
 #[derive(Drop)]
 pub struct Pieces {
     pieces: Vec<Piece>,
+    /// How many samples stand before each piece.
+    starts: Vec<u32>,
     length: u32,
 }
 
 impl Model for Pieces {
     ghost use Rattle.std.specs.Prelude.{List};
     ghost use Rattle.voice_units.specs.declared.Piece.{Piece};
-    ghost use Rattle.rope_algebra.specs.Kept.{IsCounted};
+    ghost use Rattle.rope_algebra.specs.Kept.{IsPlaced};
 
     ghost Value = { List Piece };
 
     ghost view = { λ p. p.pieces.items };
 
-    ghost invariant = { λ p. IsCounted p.pieces.items p.length };
+    ghost invariant = { λ p. IsPlaced p.pieces.items p.starts.items p.length };
 }
 
 /// No pieces yet, with room for some.
@@ -39,6 +39,19 @@ fn room_for(alloc: Global, count: usize) -> Result<Vec<Piece>, NoMemory>
     Ok(Vec::with_capacity(alloc, count)?)
 }
 
+/// These pieces, which have so many samples, with their starts.
+fn placed(pieces: Vec<Piece>, length: u32) -> Result<Pieces, NoMemory>
+    requires { IsCounted pieces.items length }
+    ensures { IfOk result (λ rope. rope ≡ pieces.items) }
+{
+    let starts = starts_of(&pieces)?;
+    Ok(Pieces {
+        pieces,
+        starts,
+        length,
+    })
+}
+
 impl Pieces {
     /// The pieces of the empty rope. It takes no memory.
     pub fn empty(alloc: Global) -> Pieces
@@ -46,6 +59,7 @@ impl Pieces {
     {
         Pieces {
             pieces: Vec::new(alloc),
+            starts: Vec::new(alloc),
             length: 0,
         }
     }
@@ -58,7 +72,7 @@ impl Pieces {
         let length = piece.len;
         let mut pieces = room_for(alloc, 1)?;
         join(&mut pieces, piece)?;
-        Ok(Pieces { pieces, length })
+        placed(pieces, length)
     }
 
     /// The pieces of the rope that a list of pieces names; they need not be in normal form.
@@ -73,7 +87,7 @@ impl Pieces {
             length += piece.len;
             join(&mut pieces, *piece)?;
         }
-        Ok(Pieces { pieces, length })
+        placed(pieces, length)
     }
 
     /// The pieces of this rope and, behind it, another one.
@@ -85,10 +99,7 @@ impl Pieces {
         let mut pieces = room_for(alloc, self.pieces.len() + other.pieces.len())?;
         join_slice(&mut pieces, &self.pieces, 0, self.length)?;
         join_slice(&mut pieces, &other.pieces, 0, other.length)?;
-        Ok(Pieces {
-            pieces,
-            length: self.length + other.length,
-        })
+        placed(pieces, self.length + other.length)
     }
 
     /// The pieces of the `len` samples from `start` on.
@@ -99,11 +110,9 @@ impl Pieces {
     {
         let alloc = *self.pieces.allocator();
         let mut pieces = room_for(alloc, 0)?;
-        join_slice(&mut pieces, &self.pieces, start, len)?;
-        Ok(Pieces {
-            pieces,
-            length: len,
-        })
+        let rest = rest_at(&self.pieces, &self.starts, start);
+        join_slice(&mut pieces, rest.pieces, rest.skip, len)?;
+        placed(pieces, len)
     }
 
     /// The pieces of this rope with another one in place of the `len` samples from `start` on.
@@ -118,10 +127,7 @@ impl Pieces {
         join_slice(&mut pieces, &self.pieces, 0, start)?;
         join_slice(&mut pieces, &with.pieces, 0, with.length)?;
         join_slice(&mut pieces, &self.pieces, end, self.length - end)?;
-        Ok(Pieces {
-            pieces,
-            length: self.length - len + with.length,
-        })
+        placed(pieces, self.length - len + with.length)
     }
 
     /// Equal pieces.
@@ -131,6 +137,7 @@ impl Pieces {
         let alloc = *self.pieces.allocator();
         Ok(Pieces {
             pieces: Vec::from_slice(alloc, &self.pieces)?,
+            starts: Vec::from_slice(alloc, &self.starts)?,
             length: self.length,
         })
     }
@@ -157,7 +164,7 @@ impl Pieces {
         self.pieces.get(k as usize).copied()
     }
 
-    /// How many samples the next window takes where `at` samples were heard. It goes over the pieces up to the window's end.
+    /// How many samples the next window takes where `at` samples were heard. It finds the piece there by a search, and goes over the pieces up to the window's end.
     pub fn window(&self, at: u32, block: u32) -> u32
         requires at { at ≤ samples_in self.now }
         requires least { 8 ≤ block }
@@ -166,19 +173,7 @@ impl Pieces {
         ensures value { result ≡ window block (spots_of self.now) at }
         ensures none { (result ≡ 0) ↔ (at ≡ samples_in self.now) }
     {
-        let mut skip = at;
-        let mut most = WINDOW_STRETCHES;
-        let mut samples = 0;
-        for piece in &self.pieces {
-            if most == 0 {
-                return samples;
-            }
-            let part = part_of(piece, skip, piece.len);
-            let first = first_stretches(part.from, part.len, block, most);
-            samples += first.samples;
-            most -= first.count;
-            skip = skip.saturating_sub(piece.len);
-        }
-        samples
+        let rest = rest_at(&self.pieces, &self.starts, at);
+        window_of(rest.pieces, rest.skip, block)
     }
 }

@@ -4,6 +4,7 @@
 mod algebra;
 mod cuts;
 mod runs;
+mod starts;
 
 pub use algebra::Pieces;
 

@@ -1,7 +1,14 @@
-//! Stretches of a run of samples.
+//! Stretches of a run of samples, and windows.
 
 ghost use Rattle.std.specs.Prelude.{◌≡◌, ℕ, ◌+◌, ◌<◌, ◌≤◌, ◌^◌, length, take};
-ghost use Rattle.voice_units.specs.Spots.{spots_from, stretches, samples_in};
+ghost use Rattle.voice_units.specs.Spots.{spots_from, spots_of, stretches, samples_in, window};
+ghost use Rattle.rope_algebra.specs.Kept.{IsRope};
+
+use super::cuts::part_of;
+use voice_units::Piece;
+
+/// The most stretches that a window has.
+const WINDOW_STRETCHES: u32 = 4;
 
 /// Some stretches: how many there are, and how many samples they have.
 #[derive(Clone, Copy)]
@@ -26,4 +33,27 @@ pub fn first_stretches(from: u32, len: u32, block: u32, most: u32) -> Stretches
         count += 1;
     }
     Stretches { count, samples }
+}
+
+/// How many samples the first four stretches have behind the first `heard` samples of pieces. It goes over the pieces up to where these stretches end.
+pub fn window_of(pieces: &[Piece], heard: u32, block: u32) -> u32
+    requires rope { IsRope pieces.now }
+    requires heard { heard ≤ samples_in pieces.now }
+    requires block { 0 < block }
+    ensures { result ≡ window block (spots_of pieces.now) heard }
+{
+    let mut skip = heard;
+    let mut most = WINDOW_STRETCHES;
+    let mut samples = 0;
+    for piece in pieces {
+        if most == 0 {
+            return samples;
+        }
+        let part = part_of(piece, skip, piece.len);
+        let first = first_stretches(part.from, part.len, block, most);
+        samples += first.samples;
+        most -= first.count;
+        skip = skip.saturating_sub(piece.len);
+    }
+    samples
 }

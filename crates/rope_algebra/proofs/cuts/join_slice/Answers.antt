@@ -1,4 +1,4 @@
-use Rattle.std.proofs.Common.{◌+◌, ◌-◌, sym, subst, arith, drop, ℕ, ◌∷◌}
+use Rattle.std.proofs.Common.{◌+◌, ◌-◌, sym, subst, drop, ℕ, ◌∷◌}
 use Rattle.rope_algebra.proofs.Parts.{at_item}
 use Rattle.rope_algebra.proofs.Joins.{IsUnderway, one_further}
 use Rattle.rope_algebra.proofs.cuts.join_slice.Goals as goal

@@ -1,4 +1,4 @@
-use Rattle.std.proofs.Common.{◌-◌, ◌+◌, ℕ}
+use Rattle.std.proofs.Common.{◌-◌}
 use Rattle.rope_algebra.proofs.Stretched.{IsStretched}
 use Rattle.rope_algebra.proofs.runs.first_stretches.Given as goal
 

@@ -1,4 +1,5 @@
-use Rattle.std.proofs.Common.{◌≡◌, ◌+◌, ◌-◌, ◌++◌, ◌∙◌, ap, refl, arith}
+use Rattle.std.proofs.Common.{subst, ◌≡◌, ◌+◌, ◌-◌, ◌++◌, ◌∙◌, ap, refl, arith}
+use Rattle.std.specs.Prelude.{IfOk}
 use Rattle.voice_units.specs.Spots.{spots_of, slice, replaced, samples_in}
 use Rattle.rope_algebra.proofs.Joins.{Names, first_part, next_part, as_replaced, are_pieces_of, are_counted, length_of_replaced}
 use Rattle.rope_algebra.proofs.algebra.Pieces.replace.Goals as goal
@@ -27,12 +28,12 @@ names c =
     (c.deref-2.ensures.value ∙ c.with.view_is) c.in_ok-join_slice-2.ensures)
     (c.deref-3.ensures.value ∙ c.self.view_is) c.in_ok-join_slice-3.ensures)
 
-pub invariant_of-result : goal.invariant_of-result
-invariant_of-result c =
+pub placed-requires : goal.placed-requires
+placed-requires c =
     let a = own c in
     let b = others c in
     are_counted c.join_slice-3.new.pieces.items (replaced (spots_of c.args.self.now) c.args.start c.args.len (spots_of c.args.with.now)) (c.self.inside.length - c.args.len + c.with.inside.length) (names c)
     (length_of_replaced c.args.self.now c.args.with.now c.self.inside.length c.with.inside.length c.args.start c.args.len a b (omega (arith, a, c.requires.interval))) (omega (arith, a, b, c.requires.most))
 
 pub returns : goal.returns
-returns c = are_pieces_of c.join_slice-3.new.pieces.items (replaced (spots_of c.args.self.now) c.args.start c.args.len (spots_of c.args.with.now)) (names c)
+returns c = subst (λ ps. IfOk c.placed.result (λ rope. rope ≡ ps)) (are_pieces_of c.join_slice-3.new.pieces.items (replaced (spots_of c.args.self.now) c.args.start c.args.len (spots_of c.args.with.now)) (names (goal.at.returns c).In_ok-join_slice-3)) c.placed.ensures

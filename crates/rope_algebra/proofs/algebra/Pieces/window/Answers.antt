@@ -1,62 +1,11 @@
-use Rattle.std.proofs.Common.{◌≡◌, ◌∙◌, ◌∷◌, ◌+◌, ◌-◌, ap, sym, subst, inl, inr, arith, drop, take, zero-add, ℕ}
-use Rattle.std.proofs.lemmas.List.{drop_all}
-use Rattle.voice_units.specs.Spots.{spots_of}
-use Rattle.voice_units.specs.Spots as spots
-use Rattle.rope_algebra.proofs.Stretched.{IsPartWindow, at_piece, one_further, window_of_none, window_fits, no_window}
-use Rattle.rope_algebra.specs.Kept.{LieInFiles}
+use Rattle.std.proofs.Common.{◌∙◌, ap, drop, take}
+use Rattle.voice_units.specs.Spots.{spots_of, samples_in, stretches}
+use Rattle.rope_algebra.proofs.Stretched.{no_window}
 use Rattle.rope_algebra.proofs.algebra.Pieces.window.Goals as goal
-use Rattle.rope_algebra.proofs.algebra.Pieces.window.Goals.{After-first_stretches-first}
-
-pub loop-piece-init : goal.loop-piece-init
-loop-piece-init c =
-    let same = c.deref-piece-items.ensures.value in
-    record {
-      normal = subst spots.IsNormal (sym same) c.self.invariant.normal;
-      ends = subst LieInFiles (sym same) c.self.invariant.ends;
-      sum = ap (λ ps. 0 + spots.samples_in (take 4 (spots.stretches c.args.block (drop c.args.at (spots_of ps))))) (same ∙ c.self.view_is) ∙ zero-add (spots.window c.args.block (spots_of c.args.self.now) c.args.at);
-    }
-
-further : (c : After-first_stretches-first) → IsPartWindow c.args.block c.args.self.now (drop (c.loop-piece.piece-index + 1) c.deref-piece-items.result.now) c.args.at (c.loop-piece.skip - c.piece-item.result.len) (c.loop-piece.most - c.first_stretches-first.result.count) (c.loop-piece.samples + c.first_stretches-first.result.samples)
-further c =
-    let part = c.part_of-part in
-    let first = c.first_stretches-first in
-    one_further c.args.block c.args.self.now (drop (c.loop-piece.piece-index + 1) c.deref-piece-items.result.now) c.piece-item.result part.result c.args.at c.loop-piece.skip c.loop-piece.most c.loop-piece.samples first.result.count first.result.samples
-    (at_piece c.args.block c.args.self.now c.deref-piece-items.result.now c.loop-piece.piece-index c.piece-item.result c.args.at c.loop-piece.skip c.loop-piece.most c.loop-piece.samples c.loop-piece-test.true c.piece-item.is c.loop-piece.invariant)
-    part.ensures.file part.ensures.from part.ensures.len part.ensures.spots (first.ensures.count part.result.file) (first.ensures.samples part.result.file)
-
-pub loop-piece-preserved : goal.loop-piece-preserved
-loop-piece-preserved c =
-    subst (λ (skip : ℕ). IsPartWindow c.args.block c.args.self.now (drop (c.loop-piece.piece-index + 1) c.deref-piece-items.result.now) c.args.at skip (c.loop-piece.most - c.first_stretches-first.result.count) (c.loop-piece.samples + c.first_stretches-first.result.samples))
-    (sym c.saturating_sub-skip.ensures) (further (goal.at.loop-piece-preserved c).After-first_stretches-first)
-
-pub overflow_add-samples : goal.overflow_add-samples
-overflow_add-samples c =
-    let all = (further (goal.at.overflow_add-samples c).After-first_stretches-first).sum in
-    let fits = window_fits c.args.block c.args.self.now c.args.at c.requires.at in
-    let total = c.self.invariant.total ∙ ap spots.samples_in c.self.view_is in
-    omega (arith, all, fits, total, c.self.invariant.fits)
-
-pub part_of-part-requires : goal.part_of-part-requires
-part_of-part-requires c = (at_piece c.args.block c.args.self.now c.deref-piece-items.result.now c.loop-piece.piece-index c.piece-item.result c.args.at c.loop-piece.skip c.loop-piece.most c.loop-piece.samples c.loop-piece-test.true c.piece-item.is c.loop-piece.invariant).ends.0
-
-pub first_stretches-first-requires-clause-end : goal.first_stretches-first-requires-clause-end
-first_stretches-first-requires-clause-end c =
-    let ends = (at_piece c.args.block c.args.self.now c.deref-piece-items.result.now c.loop-piece.piece-index c.piece-item.result c.args.at c.loop-piece.skip c.loop-piece.most c.loop-piece.samples c.loop-piece-test.true c.piece-item.is c.loop-piece.invariant).ends.0 in
-    omega (arith, ends, c.part_of-part.ensures.end)
-
-pub returns-then-most-eq0-clause-value : goal.returns-then-most-eq0-clause-value
-returns-then-most-eq0-clause-value c = window_of_none c.args.block c.args.self.now _ c.args.at c.loop-piece.skip c.loop-piece.most c.loop-piece.samples (inl c.if-most-eq0.true) c.loop-piece.invariant
-
-pub returns-then-most-eq0-clause-none : goal.returns-then-most-eq0-clause-none
-returns-then-most-eq0-clause-none c =
-    no_window c.args.block c.args.self.now c.args.at c.loop-piece.samples c.requires.at
-    (window_of_none c.args.block c.args.self.now _ c.args.at c.loop-piece.skip c.loop-piece.most c.loop-piece.samples (inl c.if-most-eq0.true) c.loop-piece.invariant)
-
-pub returns-clause-value : goal.returns-clause-value
-returns-clause-value c =
-    window_of_none c.args.block c.args.self.now _ c.args.at c.loop-piece.skip c.loop-piece.most c.loop-piece.samples (inr (drop_all c.loop-piece.piece-index c.deref-piece-items.result.now c.loop-piece-test.false)) c.loop-piece.invariant
 
 pub returns-clause-none : goal.returns-clause-none
 returns-clause-none c =
-    no_window c.args.block c.args.self.now c.args.at c.loop-piece.samples c.requires.at
-    (window_of_none c.args.block c.args.self.now _ c.args.at c.loop-piece.skip c.loop-piece.most c.loop-piece.samples (inr (drop_all c.loop-piece.piece-index c.deref-piece-items.result.now c.loop-piece-test.false)) c.loop-piece.invariant)
+    no_window c.args.block c.args.self.now c.args.at c.window_of.result c.requires.at
+    (c.window_of.ensures
+    ∙ ap (λ l. samples_in (take 4 (stretches c.args.block l)))
+    (c.rest_at-rest.ensures.spots ∙ ap (λ ps. drop c.args.at (spots_of ps)) (c.deref.ensures.value ∙ c.self.view_is)))
