@@ -8,7 +8,6 @@ use interest_table::InterestTable;
 use rope_algebra::Pieces;
 use rope_table::RopeTable;
 use std::alloc::{AllocError, Global};
-use std::hint::black_box;
 use std::io;
 use std::marker::Brand;
 use std::rt::Clock;
@@ -356,10 +355,15 @@ fn windows_at(pieces: &Pieces, at: u32) -> u32 {
 
 fn time_windows<R: Clock>(rt: &R, pieces: &Pieces, at: u32) -> io::Result<Duration> {
     let start = Instant::now(rt)?;
-    for _ in 0..ROUNDS {
-        let _samples = black_box(windows_at(black_box(pieces), at));
+    let mut samples = 0u32;
+    for round in 0..ROUNDS {
+        samples = samples.wrapping_add(windows_at(pieces, at.saturating_add(round)));
     }
-    start.elapsed(rt)
+    let took = start.elapsed(rt)?;
+    if samples == 0 {
+        return Err(io::Error::from(AllocError));
+    }
+    Ok(took)
 }
 
 // Prints what a window costs at the start and at the end of a rope of many pieces.
