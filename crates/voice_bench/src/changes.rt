@@ -122,6 +122,23 @@ impl Records {
         Ok(())
     }
 
+    // Adds eight changes of a day of mail: four edits, two rows, the oldest row's end, and a moment.
+    fn add_mail(&mut self, alloc: Global, number: u32) -> Result<(), NoMemory> {
+        let next = u64::from(FILES + 1) + 4 * u64::from(number);
+        let key = 2 * u64::from(number) + 1;
+        for more in 0..4 {
+            let file = one_below(number.wrapping_add(more), u64::from(FILES + 1));
+            self.add(
+                alloc,
+                &edited(alloc, next + u64::from(more), file, number % 1000)?,
+            )?;
+        }
+        self.add(alloc, &retained(alloc, key, next + 1)?)?;
+        self.add(alloc, &retained(alloc, key + 1, next + 3)?)?;
+        self.add(alloc, &named(alloc, 4, u64::from(number) + 1)?)?;
+        self.add(alloc, &begun(alloc, 7, u64::from(number) + 1)?)
+    }
+
     // Adds the recording of a block, two parts of it, and a row for one of them.
     fn add_ropes(&mut self, alloc: Global, number: u32) -> Result<(), NoMemory> {
         let file = 3 * u64::from(number) + 1;
@@ -152,6 +169,18 @@ pub fn changes_to(alloc: Global, ropes: u32) -> Result<Records, NoMemory> {
     let mut records = Records::new(alloc);
     for number in 0..ropes.div_ceil(3) {
         records.add_ropes(alloc, number)?;
+    }
+    Ok(records)
+}
+
+/// So many changes of mail that is kept and forgotten, the oldest first, behind 4,096 recordings: half of them edits, a quarter rows that come, an eighth the oldest row that goes, an eighth moments.
+pub fn mail_of(alloc: Global, changes: u32) -> Result<Records, NoMemory> {
+    let mut records = Records::new(alloc);
+    for number in 0..FILES {
+        records.add(alloc, &recorded(alloc, u64::from(number) + 1, number)?)?;
+    }
+    for number in 0..changes / 8 {
+        records.add_mail(alloc, number)?;
     }
     Ok(records)
 }

@@ -33,9 +33,10 @@ voice_bench MEASUREMENT: prints figures of this machine.
   parse    a script of 65,535 lines, against cutting its bytes into words
   loud     loudness and talk of 1 MiB of samples, against a plain sum
   rows     making and forgetting an interest, by the number of interests
-  ropes    putting in, taking out, cutting and sweeping ropes, by the number of ropes
+  ropes    putting in, taking out, keeping, cutting and sweeping ropes, by the number of ropes
   appends  appends a second in memory and to a file of this folder, against bare calls
   replay   replay of 16 MiB of changes, against reading them and looking each number up
+  mail     replay of mail that is kept and forgotten, by the number of changes
   compact  the base of a state, by the number of ropes
   record   recording 48 MiB in pieces of 1 MiB in memory, against bare calls
   edits    300 edits to a file of this folder, against bare calls
@@ -94,6 +95,9 @@ fn measure_journal<R: Print + Clock + AllocGlobal + Files<File = File>>(
     }
     if is_asked(word, "replay") {
         replaying::measure(rt)?;
+    }
+    if is_asked(word, "mail") {
+        replaying::measure_growth(rt)?;
     }
     if is_asked(word, "compact") {
         compacting::measure(rt)?;

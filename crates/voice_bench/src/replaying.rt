@@ -1,6 +1,6 @@
 //! Replay of changes.
 
-use crate::changes::{BLOCK, Kind, changes_of};
+use crate::changes::{BLOCK, Kind, changes_of, mail_of};
 use crate::report::ratio;
 use crate::stores::shape_of;
 use change_codec::get;
@@ -135,6 +135,25 @@ fn measure_kind<R: Print + Clock>(rt: &R, alloc: Global, name: &str, kind: Kind)
     let count = records.list.len();
     print!(rt; "16 MiB, {count} changes: ")?;
     ratio(rt, name, took, bare)
+}
+
+// Prints what the replay of so many changes of mail costs, and what it costs beside reading them.
+fn measure_mail<R: Print + Clock>(rt: &R, alloc: Global, changes: u32) -> io::Result<()> {
+    let Ok(records) = mail_of(alloc, changes) else {
+        return Err(io::Error::from(AllocError));
+    };
+    let (took, bare) = compare(rt, alloc, &records.list)?;
+    let nanos = took.as_nanos() / (records.list.len() as u128).max(1);
+    print!(rt; "{changes} changes, {nanos} ns each: ")?;
+    ratio(rt, "replay of mail", took, bare)
+}
+
+/// Prints what the replay of mail costs that is kept and forgotten, the oldest first, by the number of changes.
+pub fn measure_growth<R: Print + Clock + AllocGlobal>(rt: &R) -> io::Result<()> {
+    measure_mail(rt, rt.alloc(), 25_000)?;
+    measure_mail(rt, rt.alloc(), 50_000)?;
+    measure_mail(rt, rt.alloc(), 100_000)?;
+    measure_mail(rt, rt.alloc(), 200_000)
 }
 
 /// Prints what the replay of 16 MiB of changes costs beside reading them from their bytes and looking each number that they name up once.

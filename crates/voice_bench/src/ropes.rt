@@ -267,31 +267,124 @@ fn rounds<R: Clock>(
     Ok(times)
 }
 
-// How long all rounds of each call take at a new table of so many ropes.
-fn new_rounds<R: Clock>(rt: &R, alloc: Global, count: u32) -> io::Result<Times> {
+// A row comes to keep each of some ropes, whose numbers stand equally far apart, and goes.
+fn keep_some(table: &mut RopeTable, from: u32, apart: u32) {
+    for k in 0..SOME {
+        let number = from.wrapping_add(u32::from(k).wrapping_mul(apart));
+        table.keep(RopeId(u64::from(number)), true);
+        table.keep(RopeId(u64::from(number)), false);
+    }
+}
+
+// How long all rounds of that take.
+fn time_keeps<R: Clock>(rt: &R, table: &mut RopeTable, apart: u32) -> io::Result<Duration> {
+    let start = Instant::now(rt)?;
+    for round in 0..ROUNDS {
+        keep_some(table, round.wrapping_add(1), apart);
+    }
+    start.elapsed(rt)
+}
+
+// How long all rounds of each call take at a new table of so many ropes, and those of a row that comes and goes.
+fn new_rounds<R: Clock>(rt: &R, alloc: Global, count: u32) -> io::Result<(Times, Duration)> {
     let mut table = RopeTable::new(alloc, BLOCK);
     let interests = InterestTable::new(alloc);
     if put_some(alloc, &mut table, 1, 1, count).is_err() {
         return Err(io::Error::from(AllocError));
     }
-    rounds(rt, alloc, &mut table, &interests, count)
+    let times = rounds(rt, alloc, &mut table, &interests, count)?;
+    let keep = time_keeps(rt, &mut table, count / u32::from(SOME))?;
+    Ok((times, keep))
 }
 
 fn measure_ropes<R: Print + Clock>(rt: &R, alloc: Global, count: u32) -> io::Result<()> {
-    let times = new_rounds(rt, alloc, count)?;
+    let (times, keep) = new_rounds(rt, alloc, count)?;
     let add = nanos(times.add, SOME);
     let remove = nanos(times.remove, SOME);
     let slice = nanos(times.slice, SOME);
     let first = nanos(times.first, 1);
+    let keep = nanos(keep, SOME);
     println!(rt;
-        "{count} ropes: add {add} ns, remove {remove} ns, slice {slice} ns, the first {SOME} due {first} ns"
+        "{count} ropes: add {add} ns, remove {remove} ns, a row that comes and goes {keep} ns, slice {slice} ns, the first {SOME} due {first} ns"
     )
 }
 
-/// Prints what a rope costs to put in, to take out and to cut, and what it costs to find the first ones that a sweep removes, by the number of ropes.
+// How long each piece of the rope of the windows is, and how often that rope is doubled.
+const OF_PIECE: u32 = 100;
+
+const DOUBLINGS: u32 = 11;
+
+fn one_piece(alloc: Global, file: RopeId) -> Result<Pieces, NoMemory> {
+    let piece = Piece {
+        file,
+        from: 0,
+        len: OF_PIECE,
+    };
+    Pieces::one(alloc, piece)
+}
+
+// One rope behind another; one that would be too long is taken for lack of memory.
+fn joined(first: &Pieces, second: &Pieces) -> Result<Pieces, NoMemory> {
+    if first.length() > 1 << 29 {
+        return Err(NoMemory);
+    }
+    if second.length() > 1 << 29 {
+        return Err(NoMemory);
+    }
+    first.concat(second)
+}
+
+// A rope of 4,096 pieces, of two files by turns.
+fn many_pieces(alloc: Global) -> Result<Pieces, NoMemory> {
+    let mut pieces = joined(&one_piece(alloc, RopeId(1))?, &one_piece(alloc, RopeId(2))?)?;
+    for _ in 0..DOUBLINGS {
+        pieces = joined(&pieces, &pieces)?;
+    }
+    Ok(pieces)
+}
+
+// How many samples some windows have in all, the first of them at this place.
+fn windows_at(pieces: &Pieces, at: u32) -> u32 {
+    let mut samples = 0u32;
+    for k in 0..u32::from(SOME) {
+        let place = at.saturating_add(k).min(pieces.length());
+        samples = samples.wrapping_add(pieces.window(place, BLOCK));
+    }
+    samples
+}
+
+fn time_windows<R: Clock>(rt: &R, pieces: &Pieces, at: u32) -> io::Result<Duration> {
+    let start = Instant::now(rt)?;
+    let mut samples = 0u32;
+    for round in 0..ROUNDS {
+        samples = samples.wrapping_add(windows_at(pieces, at.saturating_add(round)));
+    }
+    let took = start.elapsed(rt)?;
+    if samples == 0 {
+        return Err(io::Error::from(AllocError));
+    }
+    Ok(took)
+}
+
+// Prints what a window costs at the start and at the end of a rope of many pieces.
+fn measure_windows<R: Print + Clock>(rt: &R, alloc: Global) -> io::Result<()> {
+    let Ok(pieces) = many_pieces(alloc) else {
+        return Err(io::Error::from(AllocError));
+    };
+    let last = pieces.length().saturating_sub(OF_PIECE);
+    let count = pieces.count();
+    let start = nanos(time_windows(rt, &pieces, 0)?, SOME);
+    let end = nanos(time_windows(rt, &pieces, last)?, SOME);
+    println!(rt;
+        "a window of a rope of {count} pieces: at the start {start} ns, at the end {end} ns"
+    )
+}
+
+/// Prints what a rope costs to put in, to take out and to cut, what a row costs that comes to keep it and goes, and what it costs to find the first ones that a sweep removes, by the number of ropes; and what a window costs.
 pub fn measure<R: Print + Clock + AllocGlobal>(rt: &R) -> io::Result<()> {
     measure_ropes(rt, rt.alloc(), 100)?;
     measure_ropes(rt, rt.alloc(), 1_000)?;
     measure_ropes(rt, rt.alloc(), 10_000)?;
-    measure_ropes(rt, rt.alloc(), 100_000)
+    measure_ropes(rt, rt.alloc(), 100_000)?;
+    measure_windows(rt, rt.alloc())
 }
