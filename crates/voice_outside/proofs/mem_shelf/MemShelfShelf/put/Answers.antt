@@ -1,5 +1,5 @@
 use Rattle.std.proofs.Common.{◌≡◌, ap, ◌∙◌, rules}
-use Rattle.std.specs.FinMap.{get, from_entries}
+use Rattle.std.specs.FinMap.{from_entries}
 use Rattle.std.proofs.lemmas.Result.{err_from_is_err_and}
 use Rattle.std.specs.Ordering.{nat_cmp}
 use Rattle.std.specs.Cmp.Lexicographic.{slice_cmp}
