@@ -14,6 +14,8 @@ mod runs;
 #[cfg(test)]
 mod scripts;
 #[cfg(test)]
+mod shared;
+#[cfg(test)]
 mod stores;
 #[cfg(test)]
 mod switches;

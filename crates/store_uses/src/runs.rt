@@ -36,8 +36,19 @@ pub fn run_script<R: Threads + Wait + Sync, D: Disk + Drop>(
     script: &[u8],
     disk: D,
 ) -> Result<(Ended<D>, Vec<u8>), Fail> {
+    run_words(rt, alloc, &["run", "s"], script, disk)
+}
+
+/// Runs these words over a script and a disk.
+pub fn run_words<R: Threads + Wait + Sync, D: Disk + Drop>(
+    rt: &R,
+    alloc: Global,
+    asked: &[&str],
+    script: &[u8],
+    disk: D,
+) -> Result<(Ended<D>, Vec<u8>), Fail> {
     let mut words = Vec::new(alloc);
-    for word in ["run", "s"] {
+    for word in asked {
         words.push(String::from_str(alloc, word)?)?;
     }
     let mut shelf = shelf_of(alloc, script)?;

@@ -1,5 +1,5 @@
 -- What a run that got as far as its calls leaves, and why it ended.
-use Rattle.std.proofs.Common.{◌≡◌, ◌⊎◌, ℕ, inl, inr, List, [], length, take, Some, None, Option, Result, Ok, Err, true, arith, refl, sym, subst}
+use Rattle.std.proofs.Common.{◌≡◌, ◌⊎◌, ℕ, inl, inr, List, [], length, take, Some, None, Option, Result, Ok, Err, Bool, true, false, arith, refl, sym, subst}
 use Rattle.std.specs.Prelude.{IfSome, IsTrue, OnOk}
 use Rattle.std.specs.Result.{is_ok}
 use Rattle.std.proofs.lemmas.List.{take_all}
@@ -16,34 +16,38 @@ use Rattle.script_lang.specs.Shown.{Reading}
 use Rattle.voice_main.specs.declared.status.Status.{Status}
 use Rattle.voice_main.specs.declared.status.Status.TheVariants.{Done, Usage, BadShape, BadScript, NoFile, ShelfFault, SinkFault, BadDisk, DiskFault, NoMemory}
 use Rattle.voice_main.specs.Ordered.{InOrder, asked_entries, unset}
-use Rattle.voice_main.specs.Ran.{IsReady, IsThere, Performed, Ran, RanWhole, SoFar}
+use Rattle.voice_model.specs.Step.{Legal}
+use Rattle.voice_main.specs.Ran.{IsReadyBy, IsThere, OnDisk, Begun, Made, Performed, Ran, RanWhole, SoFar}
 use Rattle.voice_main.specs.Statuses.{Performs, Prints, Opens, RunComes, IsSilent}
 use Rattle.voice_main.proofs.Followed.{each_follows}
 
 -- the history of a store that stands
-performed_inside : (first : State) (origin disk : Told) (inside : Inside) (lines : List Line) (k : ℕ) → Stands first origin disk inside → (IsTrue origin.honest → opened_from origin.bytes ≡ Some first)
-    → InOrder (arc_value inside.tapes) unset (take k lines) (asked_entries inside.history.items) → Performed (arc_value inside.tapes) lines k origin disk inside.history.items
-performed_inside first origin disk inside lines k stands opened order = record {
-  first = first;
-  serial = record {
-    legal = stands.stood.upright.legal;
-    order = order;
-    each = each_follows first (arc_value inside.tapes) (take k lines) inside.history.items stands.stood.upright.legal order;
-  };
-  disk = record {
-    opened = opened;
-    held = λ honest. (stands.stood.upright.held (subst IsTrue (sym stands.honest) honest)).held;
-    acks = stands.stood.upright.acks;
-    faults = stands.faults;
-  };
+on_disk : (first : State) (origin disk : Told) (inside : Inside) → Stands first origin disk inside → (IsTrue origin.honest → opened_from origin.bytes ≡ Some first) → OnDisk first (arc_value inside.tapes) origin disk inside.history.items
+on_disk first origin disk inside stands opened = record {
+  opened = opened;
+  held = λ honest. (stands.stood.upright.held (subst IsTrue (sym stands.honest) honest)).held;
+  acks = stands.stood.upright.acks;
+  faults = stands.faults;
 }
 
-pub performed : (first : State) (origin disk : Told) (inside : Inside) (tapes : List (List ℕ)) (lines : List Line) (k : ℕ) (history : List Entry) → Stands first origin disk inside → (IsTrue origin.honest → opened_from origin.bytes ≡ Some first)
-    → inside.history.items ≡ history → arc_value inside.tapes ≡ tapes → InOrder tapes unset (take k lines) (asked_entries history) → Performed tapes lines k origin disk history
-performed first origin disk inside tapes lines k history stands opened same_history same_tapes order =
-    let there : InOrder (arc_value inside.tapes) unset (take k lines) (asked_entries inside.history.items) =
-    subst (λ t. InOrder t unset (take k lines) (asked_entries inside.history.items)) (sym same_tapes) (subst (λ h. InOrder tapes unset (take k lines) (asked_entries h)) (sym same_history) order) in
-    subst (λ h. Performed tapes lines k origin disk h) same_history (subst (λ t. Performed t lines k origin disk inside.history.items) same_tapes (performed_inside first origin disk inside lines k stands opened there))
+pub performed_by : (first : State) (origin disk : Told) (inside : Inside) (tapes : List (List ℕ)) (history : List Entry) (made : State → Type 0) → Stands first origin disk inside → (IsTrue origin.honest → opened_from origin.bytes ≡ Some first)
+    → inside.history.items ≡ history → arc_value inside.tapes ≡ tapes → made first → Performed tapes made origin disk history
+performed_by first origin disk inside tapes history made stands opened same_history same_tapes so = record {
+  first = first;
+  made_so = so;
+  disk = subst (λ h. OnDisk first tapes origin disk h) same_history (subst (λ t. OnDisk first t origin disk inside.history.items) same_tapes (on_disk first origin disk inside stands opened));
+}
+
+pub legal_of : (first : State) (origin disk : Told) (inside : Inside) (tapes : List (List ℕ)) (history : List Entry) → Stands first origin disk inside → inside.history.items ≡ history → arc_value inside.tapes ≡ tapes → Legal first tapes history
+legal_of first origin disk inside tapes history stands same_history same_tapes =
+    subst (λ h. Legal first tapes h) same_history (subst (λ t. Legal first t inside.history.items) same_tapes stands.stood.upright.legal)
+
+performed : (first : State) (origin disk : Told) (inside : Inside) (tapes : List (List ℕ)) (script : Reading) (k : ℕ) (history : List Entry) → Stands first origin disk inside → (IsTrue origin.honest → opened_from origin.bytes ≡ Some first)
+    → inside.history.items ≡ history → arc_value inside.tapes ≡ tapes → InOrder tapes unset (take k script.lines) (asked_entries history) → Performed tapes (Begun false tapes script k history) origin disk history
+performed first origin disk inside tapes script k history stands opened same_history same_tapes order =
+    let legal = legal_of first origin disk inside tapes history stands same_history same_tapes in
+    performed_by first origin disk inside tapes history (Begun false tapes script k history) stands opened same_history same_tapes
+    (record { legal = legal; order = order; each = each_follows first tapes (take k script.lines) history legal order })
 
 -- ---- statuses
 
@@ -83,50 +87,52 @@ stopped_opening sink old new ShelfFault h = h
 stopped_opening sink old new (BadDisk place) h = h
 stopped_opening sink old new DiskFault h = h
 
-there_of : (words : List (List ℕ)) (told : Option Files) (script : Reading) (tapes : List (List ℕ)) → IfSome told (λ files. IsReady words files script tapes) → IfSome told (IsThere words)
-there_of words None script tapes ready = tt
-there_of words (Some files) script tapes ready = record { script = script; tapes = tapes; ready = ready }
+there_of : (threads : Bool) (words : List (List ℕ)) (told : Option Files) (script : Reading) (tapes : List (List ℕ)) → IfSome told (λ files. IsReadyBy threads words files script tapes) → IfSome told (IsThere words)
+there_of threads words None script tapes ready = tt
+there_of threads words (Some files) script tapes ready = record { script = script; tapes = tapes; ready = ready.ready }
 
-whole_of : (words : List (List ℕ)) (told : Option Files) (script : Reading) (tapes : List (List ℕ)) (old new : Told) (history : List Entry) → IfSome told (λ files. IsReady words files script tapes) → Performed tapes script.lines (length script.lines) old new history →
-    IfSome told (λ files. RanWhole words files old new history)
-whole_of words None script tapes old new history ready performed = tt
-whole_of words (Some files) script tapes old new history ready performed = record { script = script; tapes = tapes; ready = ready; performed = performed }
+whole_of : (threads : Bool) (words : List (List ℕ)) (told : Option Files) (script : Reading) (tapes : List (List ℕ)) (old new : Told) (history : List Entry) → IfSome told (λ files. IsReadyBy threads words files script tapes)
+    → Performed tapes (Made threads tapes script history) old new history → IfSome told (λ files. RanWhole words files old new history)
+whole_of threads words None script tapes old new history ready performed = tt
+whole_of threads words (Some files) script tapes old new history ready performed =
+    record { script = script; tapes = tapes; ready = ready.ready; performed = subst (λ b. Performed tapes (Made b tapes script history) old new history) (sym ready.by) performed }
 
-pub comes_ready : (words : List (List ℕ)) (told : Option Files) (shelf sink : Type 0) (script : Reading) (tapes : List (List ℕ)) (old new : Told) (history : List Entry) (status : Status) →
-    IfSome told (λ files. IsReady words files script tapes) → Performs sink old new status → (status ≡ Done → Performed tapes script.lines (length script.lines) old new history) → (status ≡ SinkFault → Performed tapes script.lines (length script.lines) old new history) →
+pub comes_ready : (threads : Bool) (words : List (List ℕ)) (told : Option Files) (shelf sink : Type 0) (script : Reading) (tapes : List (List ℕ)) (old new : Told) (history : List Entry) (status : Status) →
+    IfSome told (λ files. IsReadyBy threads words files script tapes) → Performs sink old new status → (status ≡ Done → Performed tapes (Made threads tapes script history) old new history) → (status ≡ SinkFault → Performed tapes (Made threads tapes script history) old new history) →
     RunComes words told shelf sink old new history status
-comes_ready words told shelf sink script tapes old new history Done ready which done fault = whole_of words told script tapes old new history ready (done refl)
-comes_ready words told shelf sink script tapes old new history SinkFault ready which done fault = (which, whole_of words told script tapes old new history ready (fault refl))
-comes_ready words told shelf sink script tapes old new history NoMemory ready which done fault = tt
-comes_ready words told shelf sink script tapes old new history Usage ready which done fault = absurd which
-comes_ready words told shelf sink script tapes old new history BadShape ready which done fault = which
-comes_ready words told shelf sink script tapes old new history (BadScript n) ready which done fault = absurd which
-comes_ready words told shelf sink script tapes old new history (NoFile name) ready which done fault = absurd which
-comes_ready words told shelf sink script tapes old new history ShelfFault ready which done fault = absurd which
-comes_ready words told shelf sink script tapes old new history (BadDisk place) ready which done fault = (which, there_of words told script tapes ready)
-comes_ready words told shelf sink script tapes old new history DiskFault ready which done fault = (which, there_of words told script tapes ready)
+comes_ready threads words told shelf sink script tapes old new history Done ready which done fault = whole_of threads words told script tapes old new history ready (done refl)
+comes_ready threads words told shelf sink script tapes old new history SinkFault ready which done fault = (which, whole_of threads words told script tapes old new history ready (fault refl))
+comes_ready threads words told shelf sink script tapes old new history NoMemory ready which done fault = tt
+comes_ready threads words told shelf sink script tapes old new history Usage ready which done fault = absurd which
+comes_ready threads words told shelf sink script tapes old new history BadShape ready which done fault = which
+comes_ready threads words told shelf sink script tapes old new history (BadScript n) ready which done fault = absurd which
+comes_ready threads words told shelf sink script tapes old new history (NoFile name) ready which done fault = absurd which
+comes_ready threads words told shelf sink script tapes old new history ShelfFault ready which done fault = absurd which
+comes_ready threads words told shelf sink script tapes old new history (BadDisk place) ready which done fault = (which, there_of threads words told script tapes ready)
+comes_ready threads words told shelf sink script tapes old new history DiskFault ready which done fault = (which, there_of threads words told script tapes ready)
 
-so_far_from : (words : List (List ℕ)) (told : Option Files) (script : Reading) (tapes : List (List ℕ)) (old new : Told) (history : List Entry) → IfSome told (λ files. IsReady words files script tapes) → (k : ℕ) × Performed tapes script.lines k old new history →
-    IfSome told (λ files. (k : ℕ) × Ran words files k old new history)
-so_far_from words None script tapes old new history ready performed = tt
-so_far_from words (Some files) script tapes old new history ready performed = (performed.0, record { script = script; tapes = tapes; ready = ready; performed = performed.1 })
+so_far_from : (threads : Bool) (words : List (List ℕ)) (told : Option Files) (script : Reading) (tapes : List (List ℕ)) (old new : Told) (history : List Entry) → IfSome told (λ files. IsReadyBy threads words files script tapes)
+    → (k : ℕ) × Performed tapes (Begun threads tapes script k history) old new history → IfSome told (λ files. (k : ℕ) × Ran words files k old new history)
+so_far_from threads words None script tapes old new history ready performed = tt
+so_far_from threads words (Some files) script tapes old new history ready performed =
+    (performed.0, record { script = script; tapes = tapes; ready = ready.ready; performed = subst (λ b. Performed tapes (Begun b tapes script performed.0 history) old new history) (sym ready.by) performed.1 })
 
-pub so_far_ready : (words : List (List ℕ)) (told : Option Files) (script : Reading) (tapes : List (List ℕ)) (old new : Told) (history : List Entry) → IfSome told (λ files. IsReady words files script tapes)
-    → (history ≡ []) ⊎ ((k : ℕ) × Performed tapes script.lines k old new history) → SoFar words told old new history
-so_far_ready words told script tapes old new history ready (inl none) = inl none
-so_far_ready words told script tapes old new history ready (inr performed) = inr (so_far_from words told script tapes old new history ready performed)
+pub so_far_ready : (threads : Bool) (words : List (List ℕ)) (told : Option Files) (script : Reading) (tapes : List (List ℕ)) (old new : Told) (history : List Entry) → IfSome told (λ files. IsReadyBy threads words files script tapes)
+    → (history ≡ []) ⊎ ((k : ℕ) × Performed tapes (Begun threads tapes script k history) old new history) → SoFar words told old new history
+so_far_ready threads words told script tapes old new history ready (inl none) = inl none
+so_far_ready threads words told script tapes old new history ready (inr performed) = inr (so_far_from threads words told script tapes old new history ready performed)
 
 -- ---- the calls of a script
 
 -- what the store's calls left, as it was closed
-pub ended : {D : Type 0} (told : D → Told) (first : State) (entry origin final out : D) (inside : Inside) (lent tapes : List (List ℕ)) (lines : List Line) (k : ℕ) (shown history : List Entry)
+pub ended : {D : Type 0} (told : D → Told) (first : State) (entry origin final out : D) (inside : Inside) (lent tapes : List (List ℕ)) (script : Reading) (k : ℕ) (shown history : List Entry)
     → origin ≡ entry → out ≡ final → Stands first (told origin) (told final) inside → (IsTrue (told entry).honest → opened_from (told entry).bytes ≡ Some first)
-    → inside.history.items ≡ shown → history ≡ shown → arc_value inside.tapes ≡ tapes → lent ≡ tapes → InOrder lent unset (take k lines) (asked_entries shown) → Performed tapes lines k (told entry) (told out) history
-ended told first entry origin final out inside lent tapes lines k shown history origin_is out_is stands opened inside_history same_history inside_tapes same_tapes order =
+    → inside.history.items ≡ shown → history ≡ shown → arc_value inside.tapes ≡ tapes → lent ≡ tapes → InOrder lent unset (take k script.lines) (asked_entries shown) → Performed tapes (Begun false tapes script k history) (told entry) (told out) history
+ended told first entry origin final out inside lent tapes script k shown history origin_is out_is stands opened inside_history same_history inside_tapes same_tapes order =
     let from_entry = subst (λ d. Stands first (told d) (told final) inside) origin_is stands in
     let to_out = subst (λ d. Stands first (told entry) (told d) inside) (sym out_is) from_entry in
-    let ordered = subst (λ t. InOrder t unset (take k lines) (asked_entries shown)) same_tapes order in
-    subst (λ h. Performed tapes lines k (told entry) (told out) h) (sym same_history) (performed first (told entry) (told out) inside tapes lines k shown to_out opened inside_history inside_tapes ordered)
+    let ordered = subst (λ t. InOrder t unset (take k script.lines) (asked_entries shown)) same_tapes order in
+    subst (λ h. Performed tapes (Begun false tapes script k h) (told entry) (told out) h) (sym same_history) (performed first (told entry) (told out) inside tapes script k shown to_out opened inside_history inside_tapes ordered)
 
 pub at_ok : {T E P : Type 0} (r : Result T E) → is_ok r ≡ true → OnOk r P → P
 at_ok (Ok x) fine h = h

@@ -1,5 +1,5 @@
 -- The statuses that words and files decide exclude one another.
-use Rattle.std.proofs.Common.{◌≡◌, ℕ, zero, suc, ◌⊎◌, ◌<◌, ◌≤◌, ◌-◌, ◌^◌, ◌+◌, inl, inr, List, [], ◌∷◌, ◌++◌, map, Some, None, Option, sym, refl, ap, subst, ◌∙◌, arith}
+use Rattle.std.proofs.Common.{◌≡◌, ℕ, zero, suc, ◌⊎◌, ◌<◌, ◌≤◌, ◌-◌, ◌^◌, ◌+◌, inl, inr, List, [], ◌∷◌, ◌++◌, map, Some, None, Option, Bool, true, false, sym, refl, ap, subst, ◌∙◌, arith}
 use Rattle.std.specs.Prelude.{codes, IfSome, IsTrue, count_by}
 use Rattle.std.specs.FinMap.{get}
 use Rattle.voice_model.specs.declared.calls.Entry.{Entry}
@@ -16,14 +16,38 @@ use Rattle.script_lang.specs.Verbs.{is_built_verb}
 use Rattle.script_lang.specs.Grammar.{IsScript}
 use Rattle.script_lang.specs.Causes.{FirstBad}
 use Rattle.voice_main.specs.declared.options.FormatNumbers.{FormatNumbers}
-use Rattle.voice_main.specs.Words.{IsRun, IsFormat, IsRefused}
+use Rattle.script_lang.specs.Forms.{is_file}
+use Rattle.voice_main.specs.Words.{IsSerial, IsThreaded, HasForm, IsRun, IsFormat, IsRefused}
 use Rattle.voice_main.specs.Load.{AreFiles, FirstAbsent}
 use Rattle.voice_main.specs.Ran.{IsReady, IsThere, RanWhole, SoFar}
 use Rattle.voice_main.specs.Statuses.{IsBadScript, IsNoFile, IsRead, IsExact, IsComplete, NoFaults, Comes, RunComes}
 use Rattle.script_lang.proofs.Once.{one_script, script_not_bad, one_bad}
 
+-- `--threads` names no file
+no_name : (name : List ℕ) → IsTrue (is_file name) → name ≡ codes "--threads" → ⊥
+no_name name file same = let e : false ≡ true = ap is_file (sym same) ∙ file in cc
+
+same_threaded : (words : List (List ℕ)) (a b : List ℕ) → IsThreaded words a → IsThreaded words b → IsTrue (is_file a) → IsTrue (is_file b) → a ≡ b
+same_threaded words a b (inl p) (inl q) fa fb = let e : codes "run" ∷ a ∷ codes "--threads" ∷ [] ≡ codes "run" ∷ b ∷ codes "--threads" ∷ [] = sym p ∙ q in cc
+same_threaded words a b (inr p) (inr q) fa fb = let e : codes "run" ∷ codes "--threads" ∷ a ∷ [] ≡ codes "run" ∷ codes "--threads" ∷ b ∷ [] = sym p ∙ q in cc
+same_threaded words a b (inl p) (inr q) fa fb = let e : codes "run" ∷ a ∷ codes "--threads" ∷ [] ≡ codes "run" ∷ codes "--threads" ∷ b ∷ [] = sym p ∙ q in let same : a ≡ codes "--threads" = cc in absurd (no_name a fa same)
+same_threaded words a b (inr p) (inl q) fa fb = let e : codes "run" ∷ b ∷ codes "--threads" ∷ [] ≡ codes "run" ∷ codes "--threads" ∷ a ∷ [] = sym q ∙ p in let same : b ≡ codes "--threads" = cc in absurd (no_name b fb same)
+
+two_not_three : (a b c : List ℕ) → codes "run" ∷ a ∷ [] ≡ codes "run" ∷ b ∷ c ∷ [] → ⊥
+two_not_three a b c e = cc
+
+serial_not_threaded : (words : List (List ℕ)) (a b : List ℕ) → IsSerial words a → IsThreaded words b → ⊥
+serial_not_threaded words a b p (inl q) = two_not_three a b (codes "--threads") (sym p ∙ q)
+serial_not_threaded words a b p (inr q) = two_not_three a (codes "--threads") b (sym p ∙ q)
+
+same_names : (s t : Bool) (words : List (List ℕ)) (a b : List ℕ) → HasForm s words a → HasForm t words b → IsTrue (is_file a) → IsTrue (is_file b) → a ≡ b
+same_names false false words a b p q fa fb = let e : codes "run" ∷ a ∷ [] ≡ codes "run" ∷ b ∷ [] = sym p ∙ q in cc
+same_names true true words a b p q fa fb = same_threaded words a b p q fa fb
+same_names false true words a b p q fa fb = absurd (serial_not_threaded words a b p q)
+same_names true false words a b p q fa fb = absurd (serial_not_threaded words b a q p)
+
 same_name : (words : List (List ℕ)) (a b : List ℕ) → IsRun words a → IsRun words b → a ≡ b
-same_name words a b p q = let e : codes "run" ∷ a ∷ [] ≡ codes "run" ∷ b ∷ [] = sym p.form ∙ q.form in cc
+same_name words a b p q = same_names p.threads q.threads words a b p.form q.form p.file q.file
 
 same_bytes : (files : Files) (a b : List ℕ) (x y : List ℕ) → a ≡ b → get files a ≡ Some x → get files b ≡ Some y → x ≡ y
 same_bytes files a b x y same p q = let e : Some x ≡ Some y = sym p ∙ ap (get files) same ∙ q in cc
@@ -200,8 +224,16 @@ exact words files shelf sink old new history NoMemory h = record {
 }
 
 -- a `run` is no `format`
+run_not_format : (rest options : List (List ℕ)) → codes "run" ∷ rest ≡ codes "format" ∷ options → ⊥
+run_not_format rest options e = cc
+
+form_not_format : (threads : Bool) (words options : List (List ℕ)) (name : List ℕ) → HasForm threads words name → words ≡ codes "format" ∷ options → ⊥
+form_not_format false words options name p q = run_not_format (name ∷ []) options (sym p ∙ q)
+form_not_format true words options name (inl p) q = run_not_format (name ∷ codes "--threads" ∷ []) options (sym p ∙ q)
+form_not_format true words options name (inr p) q = run_not_format (codes "--threads" ∷ name ∷ []) options (sym p ∙ q)
+
 not_both : (words : List (List ℕ)) (name : List ℕ) (numbers : FormatNumbers) → IsRun words name → IsFormat words numbers → ⊥
-not_both words name numbers r f = let e : codes "run" ∷ name ∷ [] ≡ codes "format" ∷ f.options = sym r.form ∙ f.form in cc
+not_both words name numbers r f = form_not_format r.threads words f.options name r.form f.form
 
 format_exact : (words : List (List ℕ)) (files : Files) (old : Told) (status : Status) (numbers : FormatNumbers) → IsFormat words numbers → IsExact words files old status
 format_exact words files old status numbers f = record {

@@ -12,3 +12,4 @@ pub mod Exact
 pub mod Pairing
 pub mod Walked
 pub mod Taken
+pub mod Shares

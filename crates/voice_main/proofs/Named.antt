@@ -1,9 +1,9 @@
--- The words `run NAME`.
-use Rattle.std.proofs.Common.{◌≡◌, ℕ, ◌<◌, ◌≤◌, true, false, List, [], ◌∷◌, length, get_or, map, Some, None, Option, sym, ap, ◌∙◌, arith}
-use Rattle.std.specs.Prelude.{MatchOption, codes}
+-- The words that run a script.
+use Rattle.std.proofs.Common.{◌≡◌, ℕ, ◌<◌, ◌≤◌, ◌⊎◌, inl, inr, Bool, true, false, List, [], ◌∷◌, length, get_or, map, refl, sym, ap, ◌∙◌, arith}
+use Rattle.std.specs.Prelude.{codes, IsTrue}
 use Rattle.std.proofs.lemmas.Bool.{false≢true}
 use Rattle.script_lang.specs.Forms.{is_file}
-use Rattle.voice_main.specs.Words.{IsRun, IsNoRun}
+use Rattle.voice_main.specs.Words.{HasForm, IsRunBy, IsNoRun}
 
 pub two_items : {X : Type 0} (f : X → List ℕ) (xs : List X) (v n : X) → 2 ≤ length xs → length xs < 3 → v ≡ get_or xs 0 v → n ≡ get_or xs 1 n → map f xs ≡ f v ∷ f n ∷ []
 two_items f [] v n low high first second = absurd (omega arith)
@@ -11,13 +11,95 @@ two_items f (a ∷ []) v n low high first second = absurd (omega arith)
 two_items f (a ∷ b ∷ []) v n low high first second = ap (λ x. f x ∷ f b ∷ []) (sym first) ∙ ap (λ x. f v ∷ f x ∷ []) (sym second)
 two_items f (a ∷ b ∷ c ∷ xs) v n low high first second = absurd (omega arith)
 
-pub named : (r : Option (List ℕ)) (words : List (List ℕ)) (verb bytes : List ℕ) → words ≡ verb ∷ bytes ∷ [] → verb ≡ codes "run" →
-    MatchOption r (is_file bytes ≡ false) (λ name. (is_file bytes ≡ true) × (name ≡ bytes)) → MatchOption r (IsNoRun words) (IsRun words)
-named None words verb bytes two run h = λ name is.
-    let rest : verb ∷ bytes ∷ [] ≡ codes "run" ∷ name ∷ [] = sym two ∙ is.form in
-    let same : bytes ≡ name = cc in
-    false≢true (sym h ∙ ap is_file same ∙ is.file)
-named (Some n) words verb bytes two run h = record {
-  form = two ∙ ap (λ v. v ∷ bytes ∷ []) run ∙ ap (λ b. codes "run" ∷ b ∷ []) (sym h.1);
-  file = ap is_file h.1 ∙ h.0;
+pub three_items : {X : Type 0} (f : X → List ℕ) (xs : List X) (v n m : X) → 3 ≤ length xs → length xs < 4 → v ≡ get_or xs 0 v → n ≡ get_or xs 1 n → m ≡ get_or xs 2 m → map f xs ≡ f v ∷ f n ∷ f m ∷ []
+three_items f [] v n m low high first second third = absurd (omega arith)
+three_items f (a ∷ []) v n m low high first second third = absurd (omega arith)
+three_items f (a ∷ b ∷ []) v n m low high first second third = absurd (omega arith)
+three_items f (a ∷ b ∷ c ∷ []) v n m low high first second third = ap (λ x. f x ∷ f b ∷ f c ∷ []) (sym first) ∙ ap (λ x. f v ∷ f x ∷ f c ∷ []) (sym second) ∙ ap (λ x. f v ∷ f n ∷ f x ∷ []) (sym third)
+three_items f (a ∷ b ∷ c ∷ d ∷ xs) v n m low high first second third = absurd (omega arith)
+
+no_file : (bytes name : List ℕ) → is_file bytes ≡ false → IsTrue (is_file name) → bytes ≡ name → ⊥
+no_file bytes name none some same = false≢true (sym none ∙ ap is_file same ∙ some)
+
+-- two words are the serial form alone
+two_of : (threads : Bool) (verb bytes name : List ℕ) → HasForm threads (verb ∷ bytes ∷ []) name → (verb ≡ codes "run") × (bytes ≡ name)
+two_of false verb bytes name e = ((let h : verb ∷ bytes ∷ [] ≡ codes "run" ∷ name ∷ [] = e in cc), (let h : verb ∷ bytes ∷ [] ≡ codes "run" ∷ name ∷ [] = e in cc))
+two_of true verb bytes name (inl e) = let h : verb ∷ bytes ∷ [] ≡ codes "run" ∷ name ∷ codes "--threads" ∷ [] = e in absurd (by h)
+  where
+    by : verb ∷ bytes ∷ [] ≡ codes "run" ∷ name ∷ codes "--threads" ∷ [] → ⊥
+    by h = cc
+two_of true verb bytes name (inr e) = let h : verb ∷ bytes ∷ [] ≡ codes "run" ∷ codes "--threads" ∷ name ∷ [] = e in absurd (by h)
+  where
+    by : verb ∷ bytes ∷ [] ≡ codes "run" ∷ codes "--threads" ∷ name ∷ [] → ⊥
+    by h = cc
+
+-- three words are the threaded form alone
+three_of : (threads : Bool) (verb first second name : List ℕ) → HasForm threads (verb ∷ first ∷ second ∷ []) name → (verb ≡ codes "run") × (((first ≡ name) × (second ≡ codes "--threads")) ⊎ ((first ≡ codes "--threads") × (second ≡ name)))
+three_of false verb first second name e = absurd (by e)
+  where
+    by : verb ∷ first ∷ second ∷ [] ≡ codes "run" ∷ name ∷ [] → ⊥
+    by h = cc
+three_of true verb first second name (inl e) =
+    let h : verb ∷ first ∷ second ∷ [] ≡ codes "run" ∷ name ∷ codes "--threads" ∷ [] = e in
+    let a : verb ≡ codes "run" = cc in let b : first ≡ name = cc in let c : second ≡ codes "--threads" = cc in (a, inl (b, c))
+three_of true verb first second name (inr e) =
+    let h : verb ∷ first ∷ second ∷ [] ≡ codes "run" ∷ codes "--threads" ∷ name ∷ [] = e in
+    let a : verb ≡ codes "run" = cc in let b : first ≡ codes "--threads" = cc in let c : second ≡ name = cc in (a, inr (b, c))
+
+pub no_two : (verb bytes : List ℕ) → ((verb ≡ codes "run" → ⊥) ⊎ (is_file bytes ≡ false)) → IsNoRun (verb ∷ bytes ∷ [])
+no_two verb bytes (inl other) name is = other (two_of is.threads verb bytes name is.form).0
+no_two verb bytes (inr none) name is = no_file bytes name none is.file (two_of is.threads verb bytes name is.form).1
+
+pub run_two : (verb bytes name : List ℕ) → verb ≡ codes "run" → is_file bytes ≡ true → name ≡ bytes → IsRunBy false (verb ∷ bytes ∷ []) name
+run_two verb bytes name run file same = record {
+  run = record { threads = false; form = ap (λ v. v ∷ bytes ∷ []) run ∙ ap (λ b. codes "run" ∷ b ∷ []) (sym same); file = ap is_file same ∙ file };
+  by = refl;
 }
+
+threads_no_file : is_file (codes "--threads") ≡ false
+threads_no_file = refl
+
+-- why three words run nothing
+pub no_three_verb : (verb first second : List ℕ) → (verb ≡ codes "run" → ⊥) → IsNoRun (verb ∷ first ∷ second ∷ [])
+no_three_verb verb first second other name is = other (three_of is.threads verb first second name is.form).0
+
+pub no_three_second : (verb first second : List ℕ) → first ≡ codes "--threads" → is_file second ≡ false → IsNoRun (verb ∷ first ∷ second ∷ [])
+no_three_second verb first second flag none name is = by (three_of is.threads verb first second name is.form).1
+  where
+    by : ((first ≡ name) × (second ≡ codes "--threads")) ⊎ ((first ≡ codes "--threads") × (second ≡ name)) → ⊥
+    by (inl h) = no_file (codes "--threads") name threads_no_file is.file (sym flag ∙ h.0)
+    by (inr h) = no_file second name none is.file h.1
+
+pub no_three_flag : (verb first second : List ℕ) → (first ≡ codes "--threads" → ⊥) → (second ≡ codes "--threads" → ⊥) → IsNoRun (verb ∷ first ∷ second ∷ [])
+no_three_flag verb first second a b name is = by (three_of is.threads verb first second name is.form).1
+  where
+    by : ((first ≡ name) × (second ≡ codes "--threads")) ⊎ ((first ≡ codes "--threads") × (second ≡ name)) → ⊥
+    by (inl h) = b h.1
+    by (inr h) = a h.0
+
+pub no_three_first : (verb first second : List ℕ) → (first ≡ codes "--threads" → ⊥) → is_file first ≡ false → IsNoRun (verb ∷ first ∷ second ∷ [])
+no_three_first verb first second a none name is = by (three_of is.threads verb first second name is.form).1
+  where
+    by : ((first ≡ name) × (second ≡ codes "--threads")) ⊎ ((first ≡ codes "--threads") × (second ≡ name)) → ⊥
+    by (inl h) = no_file first name none is.file h.0
+    by (inr h) = a h.0
+
+pub run_three_front : (verb first second name : List ℕ) → verb ≡ codes "run" → first ≡ codes "--threads" → is_file second ≡ true → name ≡ second → IsRunBy true (verb ∷ first ∷ second ∷ []) name
+run_three_front verb first second name run flag file same = record {
+  run = record { threads = true; form = inr (ap (λ v. v ∷ first ∷ second ∷ []) run ∙ ap (λ f. codes "run" ∷ f ∷ second ∷ []) flag ∙ ap (λ b. codes "run" ∷ codes "--threads" ∷ b ∷ []) (sym same)); file = ap is_file same ∙ file };
+  by = refl;
+}
+
+pub run_three_back : (verb first second name : List ℕ) → verb ≡ codes "run" → second ≡ codes "--threads" → is_file first ≡ true → name ≡ first → IsRunBy true (verb ∷ first ∷ second ∷ []) name
+run_three_back verb first second name run flag file same = record {
+  run = record { threads = true; form = inl (ap (λ v. v ∷ first ∷ second ∷ []) run ∙ ap (λ f. codes "run" ∷ first ∷ f ∷ []) flag ∙ ap (λ b. codes "run" ∷ b ∷ codes "--threads" ∷ []) (sym same)); file = ap is_file same ∙ file };
+  by = refl;
+}
+
+pub none_other : (words : List (List ℕ)) → (length words ≡ 2 → ⊥) → (length words ≡ 3 → ⊥) → IsNoRun words
+none_other words two three name is = by is.threads is.form
+  where
+    by : (threads : Bool) → HasForm threads words name → ⊥
+    by false e = two (ap length e)
+    by true (inl e) = three (ap length e)
+    by true (inr e) = three (ap length e)

@@ -1,11 +1,12 @@
 -- What a run of a script leaves.
---     GoesOn old new      the counts of a disk after calls
 --     OnDisk first tapes old new history      what the disk was opened as, and what a crash may leave of the history
 --     Serial first tapes lines k history      the history of the first k lines: legal, in order, each caller's entries following its lines
+--     Shared first tapes script history      the history of callers on threads: legal, and each caller's entries following the first of its lines
+--     Performed tapes made old new history      a disk that was opened, and a history over it that was made so
 --     IsReady words files script tapes      the words name a script that is there, and so are its sample files
 --     Ran, RanWhole      the history of the first k lines of the script, or of all
 --     SoFar      what stands of the history, whatever the status is
-use Rattle.std.specs.Prelude.{ℕ, List, [], ◌≡◌, ◌⊎◌, ◌≤◌, ◌+◌, Option, Some, IfSome, IsTrue, length, take}
+use Rattle.std.specs.Prelude.{ℕ, List, [], ◌≡◌, ◌⊎◌, ◌≤◌, ◌+◌, Bool, true, false, map, Option, Some, IfSome, IsTrue, length, take}
 use Rattle.std.specs.FinMap.{get}
 use Rattle.voice_outside.specs.Disk.{Told}
 use Rattle.voice_outside.specs.Files.{Files}
@@ -14,22 +15,18 @@ use Rattle.voice_model.specs.State.{State}
 use Rattle.voice_model.specs.Step.{Legal}
 use Rattle.voice_model.specs.Image.{opened_from, recovered_from}
 use Rattle.voice_model.specs.Crash.{Held}
+use Rattle.voice_model.specs.Follows.{Follows}
+use Rattle.turnstile.specs.Turns.{Every, IsOfPasses}
 use Rattle.voice_store.specs.Stood.{AcksRise}
 use Rattle.voice_store.specs.Shown.{FaultsCover}
 use Rattle.script_lang.specs.declared.scripts.Line.{Line}
+use Rattle.script_lang.specs.Errands.{errand_of}
 use Rattle.script_lang.specs.Shown.{Reading}
 use Rattle.script_lang.specs.Verbs.{is_built_verb}
 use Rattle.script_lang.specs.Grammar.{IsScript}
 use Rattle.voice_main.specs.Words.{IsRun}
 use Rattle.voice_main.specs.Load.{AreFiles}
-use Rattle.voice_main.specs.Ordered.{InOrder, EachFollows, asked_entries, unset}
-
--- the counts of a disk after calls
-pub record GoesOn (old new : Told) : Type 0 where
-  pub size : new.size ≡ old.size
-  pub honest : new.honest ≡ old.honest
-  pub later : old.calls ≤ new.calls
-  pub faults : old.faults ≤ new.faults
+use Rattle.voice_main.specs.Ordered.{InOrder, EachFollows, asked_entries, unset, lines_of_caller, entries_of_caller}
 
 -- an honest disk was opened as what its bytes recover, and a crash since an entry leaves that entry's state or a later one; the moments of the entries never fall, and at most so many entries tell of faults as faults rose
 pub record OnDisk (first : State) (tapes : List (List ℕ)) (old new : Told) (history : List Entry) : Type 0 where
@@ -44,10 +41,36 @@ pub record Serial (first : State) (tapes : List (List ℕ)) (lines : List Line) 
   pub order : InOrder tapes unset (take k lines) (asked_entries history)
   pub each : EachFollows tapes (take k lines) history
 
--- a disk that was opened, and the history of the first k lines over it
-pub record Performed (tapes : List (List ℕ)) (lines : List Line) (k : ℕ) (old new : Told) (history : List Entry) : Type 0 where
+-- the entries of each caller follow the first of its lines
+abbrev pub EachBegins : List (List ℕ) → List Line → List Entry → Type 0
+EachBegins tapes lines history = (caller : ℕ) → 1 ≤ caller → (k : ℕ) × Follows [] (map (errand_of tapes) (lines_of_caller caller (take k lines))) (entries_of_caller caller history)
+
+-- the history of callers on threads of their own: legal, each entry a landing or one of a caller of the script, and each caller's entries following the first of its lines
+pub record Shared (first : State) (tapes : List (List ℕ)) (script : Reading) (history : List Entry) : Type 0 where
+  pub legal : Legal first tapes history
+  pub of : Every (IsOfPasses script.callers) history
+  pub each : EachBegins tapes script.lines history
+
+-- all their lines
+pub record SharedWhole (first : State) (tapes : List (List ℕ)) (script : Reading) (history : List Entry) : Type 0 where
+  pub legal : Legal first tapes history
+  pub of : Every (IsOfPasses script.callers) history
+  pub each : EachFollows tapes script.lines history
+
+-- the history of the first lines of a script: of k in the script's order, or of callers on threads
+abbrev pub Begun : Bool → List (List ℕ) → Reading → ℕ → List Entry → State → Type 0
+Begun false tapes script k history first = Serial first tapes script.lines k history
+Begun true tapes script k history first = Shared first tapes script history
+
+-- the history of the whole script
+abbrev pub Made : Bool → List (List ℕ) → Reading → List Entry → State → Type 0
+Made false tapes script history first = Serial first tapes script.lines (length script.lines) history
+Made true tapes script history first = SharedWhole first tapes script history
+
+-- a disk that was opened, and a history over it that was made so
+pub record Performed (tapes : List (List ℕ)) (made : State → Type 0) (old new : Told) (history : List Entry) : Type 0 where
   pub first : State
-  pub serial : Serial first tapes lines k history
+  pub made_so : made first
   pub disk : OnDisk first tapes old new history
 
 -- the words name a script that is there, and so are its sample files
@@ -58,6 +81,11 @@ pub record IsReady (words : List (List ℕ)) (files : Files) (script : Reading) 
   pub found : get files name ≡ Some bytes
   pub spelled : IsScript is_built_verb bytes script
   pub samples : AreFiles files script.samples tapes
+
+-- the same, on threads or not
+pub record IsReadyBy (threads : Bool) (words : List (List ℕ)) (files : Files) (script : Reading) (tapes : List (List ℕ)) : Type 0 where
+  pub ready : IsReady words files script tapes
+  pub by : ready.run.threads ≡ threads
 
 -- all that a run wants is there
 pub record IsThere (words : List (List ℕ)) (files : Files) : Type 0 where
@@ -70,14 +98,14 @@ pub record Ran (words : List (List ℕ)) (files : Files) (k : ℕ) (old new : To
   pub script : Reading
   pub tapes : List (List ℕ)
   pub ready : IsReady words files script tapes
-  pub performed : Performed tapes script.lines k old new history
+  pub performed : Performed tapes (Begun ready.run.threads tapes script k history) old new history
 
 -- the history of the whole script
 pub record RanWhole (words : List (List ℕ)) (files : Files) (old new : Told) (history : List Entry) : Type 0 where
   pub script : Reading
   pub tapes : List (List ℕ)
   pub ready : IsReady words files script tapes
-  pub performed : Performed tapes script.lines (length script.lines) old new history
+  pub performed : Performed tapes (Made ready.run.threads tapes script history) old new history
 
 -- whatever the status is, the history is empty, or that of the first lines
 abbrev pub SoFar : List (List ℕ) → Option Files → Told → Told → List Entry → Type 0

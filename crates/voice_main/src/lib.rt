@@ -9,6 +9,7 @@ mod options;
 mod output;
 mod script_lines;
 mod status;
+mod threads;
 mod top_call;
 mod words;
 

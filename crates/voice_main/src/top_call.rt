@@ -1,6 +1,6 @@
 //! The top call.
 
-ghost use Rattle.std.specs.Prelude.{ℕ, List, [], Some, ◌≡◌, ◌≤◌, ◌++◌, ◌⊎◌, true, IfOk, IfErr, IfSome, IsTrue, map, string_bytes, length, take};
+ghost use Rattle.std.specs.Prelude.{ℕ, List, [], Some, ◌≡◌, ◌≤◌, ◌++◌, ◌⊎◌, true, false, IfOk, IfErr, IfSome, IsTrue, map, string_bytes, length, take};
 ghost use Rattle.std.specs.Arc.{arc_value};
 ghost use Rattle.voice_model.specs.Text.{text_of};
 ghost use Rattle.voice_outside.specs.Counters.{HasRisen};
@@ -11,7 +11,8 @@ ghost use Rattle.voice_main.specs.Words.{IsNoRun, IsFormat, IsRefused};
 ghost use Rattle.voice_outside.specs.Disk.{Now};
 ghost use Rattle.voice_main.specs.declared.options.FormatNumbers.{FormatNumbers as NumbersValue};
 ghost use Rattle.voice_main.specs.Formats.{Formats, FormatStatus};
-ghost use Rattle.voice_main.specs.Ran.{GoesOn, IsReady, Performed, SoFar};
+ghost use Rattle.voice_server.specs.Kept.{GoesOn};
+ghost use Rattle.voice_main.specs.Ran.{IsReadyBy, Performed, Begun, Made, SoFar};
 ghost use Rattle.voice_main.specs.Statuses.{Stops, Opens, Performs, RunComes, Comes, IsEarly, IsSilent, IsExact, IsComplete, load_status_of, open_status_of, script_status_of};
 
 use crate::assigned::assigned;
@@ -21,7 +22,8 @@ use crate::options::format_numbers;
 use crate::output::print;
 use crate::script_lines::run_lines;
 use crate::status::Status;
-use crate::words::script_name;
+use crate::threads::call_on_threads;
+use crate::words::run_words;
 use script_lang::{Script, ScriptError, parse};
 use std::alloc::Global;
 use std::sync::{Arc, Wait};
@@ -38,11 +40,12 @@ pub struct Ended<D> {
     pub history: Vec<Entry>,
 }
 
-// A script with its sample files.
+/// A script with its sample files, and whether each caller's lines go on a thread of its own.
 #[derive(Drop)]
-struct Scripted {
-    script: Script,
-    tapes: Arc<Tapes, Global>,
+pub(crate) struct Scripted {
+    pub(crate) script: Script,
+    pub(crate) tapes: Arc<Tapes, Global>,
+    pub(crate) threads: bool,
 }
 
 fn load_status(e: LoadError) -> Status
@@ -64,7 +67,7 @@ fn script_status(e: ScriptError) -> Status
     }
 }
 
-fn open_status(e: OpenError) -> Status
+pub(crate) fn open_status(e: OpenError) -> Status
     ensures { result ≡ open_status_of e }
 {
     match e {
@@ -75,7 +78,7 @@ fn open_status(e: OpenError) -> Status
 }
 
 fn prepared<K: Shelf>(alloc: Global, words: &[String], shelf: &mut K) -> Result<Scripted, Status>
-    ensures ready { IfOk result (λ s. IfSome (K.files shelf.old) (λ files. IsReady (map string_bytes words.now) files s.script (arc_value s.tapes))) }
+    ensures ready { IfOk result (λ s. IfSome (K.files shelf.old) (λ files. IsReadyBy s.threads (map string_bytes words.now) files s.script (arc_value s.tapes))) }
     ensures whole { IfOk result (λ s. IsWhole is_built_verb s.script) }
     ensures there { IfOk result (λ s. length (arc_value s.tapes) ≡ length s.script.samples) }
     ensures usage { IsNoRun (map string_bytes words.now) → result ≡ Err Status.Usage }
@@ -83,10 +86,10 @@ fn prepared<K: Shelf>(alloc: Global, words: &[String], shelf: &mut K) -> Result<
     ensures kept { K.files shelf.new ≡ K.files shelf.old }
     ensures later { K.faults shelf.old ≤ K.faults shelf.new }
 {
-    let Some(name) = script_name(words) else {
+    let Some(asked) = run_words(words) else {
         return Err(Status::Usage);
     };
-    let bytes = match file(shelf, &name) {
+    let bytes = match file(shelf, &asked.name) {
         Ok(bytes) => bytes,
         Err(e) => return Err(load_status(e)),
     };
@@ -101,15 +104,19 @@ fn prepared<K: Shelf>(alloc: Global, words: &[String], shelf: &mut K) -> Result<
     let Ok(tapes) = Arc::new(alloc, Tapes::new(tapes)) else {
         return Err(Status::NoMemory);
     };
-    Ok(Scripted { script, tapes })
+    Ok(Scripted {
+        script,
+        tapes,
+        threads: asked.threads,
+    })
 }
 
-// The disk and the history that the calls of a script left.
+/// The disk and the history that the calls of a script left.
 #[derive(Drop)]
-struct Called<D> {
-    disk: D,
-    history: Vec<Entry>,
-    is_finished: bool,
+pub(crate) struct Called<D> {
+    pub(crate) disk: D,
+    pub(crate) history: Vec<Entry>,
+    pub(crate) is_finished: bool,
 }
 
 // Opens the disk's store, and makes the calls of a script.
@@ -121,8 +128,8 @@ fn call_lines<D: Disk, G: Gate>(
 ) -> Result<Called<D>, (Status, D)>
     requires whole { IsWhole is_built_verb scripted.now.script }
     requires there { length (arc_value scripted.now.tapes) ≡ length scripted.now.script.samples }
-    ensures so_far { IfOk result (λ called. (k : ℕ) × Performed (arc_value scripted.now.tapes) scripted.now.script.lines k (D.told disk) (D.told called.disk) called.history.items) }
-    ensures finished { IfOk result (λ called. called.is_finished ≡ true → Performed (arc_value scripted.now.tapes) scripted.now.script.lines (length scripted.now.script.lines) (D.told disk) (D.told called.disk) called.history.items) }
+    ensures so_far { IfOk result (λ called. (k : ℕ) × Performed (arc_value scripted.now.tapes) (Begun false (arc_value scripted.now.tapes) scripted.now.script k called.history.items) (D.told disk) (D.told called.disk) called.history.items) }
+    ensures finished { IfOk result (λ called. called.is_finished ≡ true → Performed (arc_value scripted.now.tapes) (Made false (arc_value scripted.now.tapes) scripted.now.script called.history.items) (D.told disk) (D.told called.disk) called.history.items) }
     ensures opens { IfErr result (λ e. Opens (D.told disk) (D.told e.1) e.0) }
     ensures goes { IfOk result (λ called. GoesOn (D.told disk) (D.told called.disk)) }
     ensures goes_back { IfErr result (λ e. GoesOn (D.told disk) (D.told e.1)) }
@@ -143,8 +150,31 @@ fn call_lines<D: Disk, G: Gate>(
     })
 }
 
+// Makes the calls of a script, on threads or in its order.
+fn call_all<R: Threads + Wait + Sync, D: Disk, G: Gate>(
+    rt: &R,
+    alloc: Global,
+    scripted: &Scripted,
+    disk: D,
+    gate: &G,
+) -> Result<Called<D>, (Status, D)>
+    requires whole { IsWhole is_built_verb scripted.now.script }
+    requires there { length (arc_value scripted.now.tapes) ≡ length scripted.now.script.samples }
+    ensures so_far { IfOk result (λ called. (k : ℕ) × Performed (arc_value scripted.now.tapes) (Begun scripted.now.threads (arc_value scripted.now.tapes) scripted.now.script k called.history.items) (D.told disk) (D.told called.disk) called.history.items) }
+    ensures finished { IfOk result (λ called. called.is_finished ≡ true → Performed (arc_value scripted.now.tapes) (Made scripted.now.threads (arc_value scripted.now.tapes) scripted.now.script called.history.items) (D.told disk) (D.told called.disk) called.history.items) }
+    ensures opens { IfErr result (λ e. Opens (D.told disk) (D.told e.1) e.0) }
+    ensures goes { IfOk result (λ called. GoesOn (D.told disk) (D.told called.disk)) }
+    ensures goes_back { IfErr result (λ e. GoesOn (D.told disk) (D.told e.1)) }
+{
+    if scripted.threads {
+        return call_on_threads(rt, alloc, scripted, disk, gate);
+    }
+    call_lines(alloc, scripted, disk, gate)
+}
+
 // Makes the calls of a script, and prints their history.
-fn perform<O: Sink, D: Disk, G: Gate>(
+fn perform<R: Threads + Wait + Sync, O: Sink, D: Disk, G: Gate>(
+    rt: &R,
     alloc: Global,
     scripted: &Scripted,
     out: &mut O,
@@ -153,16 +183,16 @@ fn perform<O: Sink, D: Disk, G: Gate>(
 ) -> Ended<D>
     requires whole { IsWhole is_built_verb scripted.now.script }
     requires there { length (arc_value scripted.now.tapes) ≡ length scripted.now.script.samples }
-    ensures so_far { (result.history.items ≡ []) ⊎ ((k : ℕ) × Performed (arc_value scripted.now.tapes) scripted.now.script.lines k (D.told disk) (D.told result.disk) result.history.items) }
-    ensures whole { result.status ≡ Status.Done → Performed (arc_value scripted.now.tapes) scripted.now.script.lines (length scripted.now.script.lines) (D.told disk) (D.told result.disk) result.history.items }
-    ensures sink_fault { result.status ≡ Status.SinkFault → Performed (arc_value scripted.now.tapes) scripted.now.script.lines (length scripted.now.script.lines) (D.told disk) (D.told result.disk) result.history.items }
+    ensures so_far { (result.history.items ≡ []) ⊎ ((k : ℕ) × Performed (arc_value scripted.now.tapes) (Begun scripted.now.threads (arc_value scripted.now.tapes) scripted.now.script k result.history.items) (D.told disk) (D.told result.disk) result.history.items) }
+    ensures whole { result.status ≡ Status.Done → Performed (arc_value scripted.now.tapes) (Made scripted.now.threads (arc_value scripted.now.tapes) scripted.now.script result.history.items) (D.told disk) (D.told result.disk) result.history.items }
+    ensures sink_fault { result.status ≡ Status.SinkFault → Performed (arc_value scripted.now.tapes) (Made scripted.now.threads (arc_value scripted.now.tapes) scripted.now.script result.history.items) (D.told disk) (D.told result.disk) result.history.items }
     ensures which { Performs (HasRisen (O.faults out.old) (O.faults out.new) ⊎ HasRisen (O.empty_takes out.old) (O.empty_takes out.new)) (D.told disk) (D.told result.disk) result.status }
     ensures done { result.status ≡ Status.Done → IfSome (O.contents out.old) (λ had. O.contents out.new ≡ Some (had ++ text_of result.history.items)) }
     ensures prefix { IfSome (O.contents out.old) (λ had. (n : ℕ) × (O.contents out.new ≡ Some (had ++ take n (text_of result.history.items)))) }
     ensures silent { IsSilent result.status → (result.history.items ≡ []) × (O.contents out.new ≡ O.contents out.old) }
     ensures goes { GoesOn (D.told disk) (D.told result.disk) }
 {
-    let called = match call_lines(alloc, scripted, disk, gate) {
+    let called = match call_all(rt, alloc, scripted, disk, gate) {
         Ok(called) => called,
         Err((status, disk)) => return Ended {
             status,
@@ -186,7 +216,8 @@ fn perform<O: Sink, D: Disk, G: Gate>(
 }
 
 // Runs the script that the words name.
-fn run_script<K: Shelf, O: Sink, D: Disk, G: Gate>(
+fn run_script<R: Threads + Wait + Sync, K: Shelf, O: Sink, D: Disk, G: Gate>(
+    rt: &R,
     alloc: Global,
     words: &[String],
     shelf: &mut K,
@@ -213,7 +244,7 @@ fn run_script<K: Shelf, O: Sink, D: Disk, G: Gate>(
     ensures disk { GoesOn (D.told disk) (D.told result.disk) }
 {
     match prepared(alloc, words, shelf) {
-        Ok(scripted) => perform(alloc, &scripted, out, disk, gate),
+        Ok(scripted) => perform(rt, alloc, &scripted, out, disk, gate),
         Err(status) => Ended {
             status,
             disk,
@@ -223,7 +254,8 @@ fn run_script<K: Shelf, O: Sink, D: Disk, G: Gate>(
 }
 
 // Does what the words say.
-fn carry_out<K: Shelf, O: Sink, D: Disk, G: Gate>(
+fn carry_out<R: Threads + Wait + Sync, K: Shelf, O: Sink, D: Disk, G: Gate>(
+    rt: &R,
     alloc: Global,
     words: &[String],
     shelf: &mut K,
@@ -254,7 +286,7 @@ fn carry_out<K: Shelf, O: Sink, D: Disk, G: Gate>(
 {
     // The grammar decides which words are accepted, and clap assigns their numbers.
     let Some(_accepted) = format_numbers(words) else {
-        return run_script(alloc, words, shelf, out, disk, gate);
+        return run_script(rt, alloc, words, shelf, out, disk, gate);
     };
     let Some(numbers) = assigned(alloc, words) else {
         return Ended {
@@ -273,7 +305,7 @@ fn carry_out<K: Shelf, O: Sink, D: Disk, G: Gate>(
 
 /// Does what the words say.
 pub fn run<R: Threads + Wait + Sync, K: Shelf, O: Sink, D: Disk, G: Gate>(
-    _rt: &R,
+    rt: &R,
     alloc: Global,
     words: &[String],
     shelf: &mut K,
@@ -311,5 +343,5 @@ pub fn run<R: Threads + Wait + Sync, K: Shelf, O: Sink, D: Disk, G: Gate>(
     ensures format { (numbers : NumbersValue) → IsFormat (map string_bytes words.now) numbers → FormatStatus numbers (D.told disk) (D.told result.disk) result.status }
     ensures formatted { (numbers : NumbersValue) → IsFormat (map string_bytes words.now) numbers → result.status ≡ Status.Done → IsTrue (D.told disk).honest → Now (D.told result.disk) (Formats numbers (D.told disk).bytes) }
 {
-    carry_out(alloc, words, shelf, out, disk, gate)
+    carry_out(rt, alloc, words, shelf, out, disk, gate)
 }

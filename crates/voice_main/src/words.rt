@@ -1,8 +1,8 @@
 //! The words of the command line.
 
-ghost use Rattle.std.specs.Prelude.{◌≡◌, MatchOption, map, string_bytes, true, false};
+ghost use Rattle.std.specs.Prelude.{◌≡◌, [], ◌∷◌, length, MatchOption, map, string_bytes, true, false};
 ghost use Rattle.script_lang.specs.Forms.{is_file};
-ghost use Rattle.voice_main.specs.Words.{IsRun, IsNoRun};
+ghost use Rattle.voice_main.specs.Words.{IsRunBy, IsNoRun};
 
 use script_lang::is_file;
 use voice_units::Name;
@@ -20,15 +20,77 @@ fn file_name(bytes: &[u8]) -> Option<Name>
     }
 }
 
-/// The script that the words `run NAME` name; `None` exactly for other words.
-pub fn script_name(words: &[String]) -> Option<Name>
-    ensures { MatchOption result (IsNoRun (map string_bytes words.now)) (IsRun (map string_bytes words.now)) }
+/// The script that is run, and whether each caller's lines go on a thread of its own.
+#[derive(Drop)]
+pub struct RunWords {
+    pub name: Name,
+    pub threads: bool,
+}
+
+// The words `run NAME`, with what stands for `run` and NAME.
+fn run_serial(verb: &[u8], name: &[u8]) -> Option<RunWords>
+    ensures { MatchOption result (IsNoRun (verb.now ∷ name.now ∷ [])) (λ r. IsRunBy r.threads (verb.now ∷ name.now ∷ []) r.name) }
 {
+    if verb != b"run".as_slice() {
+        return None;
+    }
+    let Some(name) = file_name(name) else {
+        return None;
+    };
+    Some(RunWords {
+        name,
+        threads: false,
+    })
+}
+
+// The words `run NAME --threads` or `run --threads NAME`.
+fn run_threaded(verb: &[u8], first: &[u8], second: &[u8]) -> Option<RunWords>
+    ensures { MatchOption result (IsNoRun (verb.now ∷ first.now ∷ second.now ∷ [])) (λ r. IsRunBy r.threads (verb.now ∷ first.now ∷ second.now ∷ []) r.name) }
+{
+    if verb != b"run".as_slice() {
+        return None;
+    }
+    if first == b"--threads".as_slice() {
+        let Some(name) = file_name(second) else {
+            return None;
+        };
+        return Some(RunWords {
+            name,
+            threads: true,
+        });
+    }
+    if second != b"--threads".as_slice() {
+        return None;
+    }
+    let Some(name) = file_name(first) else {
+        return None;
+    };
+    Some(RunWords {
+        name,
+        threads: true,
+    })
+}
+
+// Three words.
+fn run_three(words: &[String]) -> Option<RunWords>
+    requires { length words.now ≡ 3 }
+    ensures { MatchOption result (IsNoRun (map string_bytes words.now)) (λ r. IsRunBy r.threads (map string_bytes words.now) r.name) }
+{
+    let [verb, first, second] = words else {
+        unreachable!()
+    };
+    run_threaded(verb.as_bytes(), first.as_bytes(), second.as_bytes())
+}
+
+/// The script that the words run; `None` exactly for words that run none.
+pub fn run_words(words: &[String]) -> Option<RunWords>
+    ensures { MatchOption result (IsNoRun (map string_bytes words.now)) (λ r. IsRunBy r.threads (map string_bytes words.now) r.name) }
+{
+    if words.len() == 3 {
+        return run_three(words);
+    }
     let [verb, name] = words else {
         return None;
     };
-    if verb.as_bytes() != b"run".as_slice() {
-        return None;
-    }
-    file_name(name.as_bytes())
+    run_serial(verb.as_bytes(), name.as_bytes())
 }

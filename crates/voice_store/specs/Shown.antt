@@ -3,7 +3,9 @@
 --     FaultsCover low history high      there are at most so many entries of faults as faults rose, unless their count is at its end
 --     Stands first origin disk inside      the store was opened in this state, and all its history is legal from it and held
 --     IsWhole origin disk inside      the store stands for some history
+--     IsSeen s      the history and the tapes that contracts see are those that it keeps
 use Rattle.std.specs.Prelude.{◌≡◌, ℕ, ◌+◌, ◌-◌, ◌^◌, ◌<◌, ◌≤◌, List, count_by}
+use Rattle.std.specs.Arc.{arc_value}
 use Rattle.voice_outside.specs.Disk.{Told}
 use Rattle.voice_model.specs.State.{State}
 use Rattle.voice_model.specs.declared.calls.Entry.{Entry}
@@ -32,3 +34,8 @@ pub record Stands (first : State) (origin disk : Told) (inside : Inside) : Type 
 pub record IsWhole (origin disk : Told) (inside : Inside) : Type 0 where
   pub first : State
   pub stands : Stands first origin disk inside
+
+-- the history and the tapes that contracts see are those that it keeps
+pub record IsSeen {D : Type 0} (s : Shown D) : Type 0 where
+  pub history : s.inside.history.items ≡ s.history
+  pub tapes : arc_value s.inside.tapes ≡ s.tapes

@@ -9,7 +9,7 @@ ghost use Rattle.voice_journal.specs.Formatted.{IsFormatted, SameButHeads};
 ghost use Rattle.voice_model.specs.State.{State, formatted};
 ghost use Rattle.voice_model.specs.Room.{free};
 ghost use Rattle.voice_model.specs.Image.{Reading, reading, opened_from};
-ghost use Rattle.voice_store.specs.Shown.{Stands};
+ghost use Rattle.voice_store.specs.Shown.{Stands, IsSeen};
 ghost use Rattle.voice_store.specs.Stood.{ShowsState, last_state};
 ghost use Rattle.voice_store.specs.Facts.{Adds, AddsLanding, Goes, IsFault, TakesAreIn, HasRopes, is_built, most_calls};
 
@@ -67,6 +67,8 @@ impl<D: Disk> Store<D> {
         ensures ok { IfOk result (λ s. (s.origin ≡ disk) × (s.tapes ≡ arc_value tapes) × (s.history ≡ []) × Goes 5 (D.told disk) (D.told s.disk)) }
         // The opened state is what the disk's bytes recover.
         ensures state { IfOk result (λ s. (first : State) × Stands first (D.told s.origin) (D.told s.disk) s.inside × (IsTrue (D.told disk).honest → opened_from (D.told disk).bytes ≡ Some first)) }
+        // What contracts see of a store is what it keeps.
+        ensures seen { IfOk result (λ s. IsSeen s) }
         ensures goes { IfErr result (λ e. Goes 5 (D.told disk) (D.told e.1)) }
         ensures bad { IfErr result (λ e. (place : ℕ) → e.0 ≡ OpenError.BadDisk place → IsTrue (D.told disk).honest → reading (D.told disk).bytes ≡ Reading.Bad place) }
         ensures fault { IfErr result (λ e. e.0 ≡ OpenError.DiskFault → HasRisen (D.told disk).faults (D.told e.1).faults) }
@@ -99,6 +101,7 @@ impl<D: Disk> Store<D> {
         ensures goes { Goes (most_calls self.old.inside.journal.shape.block call) (D.told self.old.disk) (D.told self.new.disk) }
         ensures origin { self.new.origin ≡ self.old.origin }
         ensures tapes { self.new.tapes ≡ self.old.tapes }
+        ensures seen { IsSeen self.new }
     {
         self.inside.apply(&mut self.disk, caller, call)
     }

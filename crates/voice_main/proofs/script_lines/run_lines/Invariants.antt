@@ -1,7 +1,7 @@
 use Rattle.std.proofs.Common.{◌≡◌, length}
 use Rattle.voice_model.specs.State.{State}
 use Rattle.voice_store.specs.Shown.{Stands}
-use Rattle.voice_main.specs.Ran.{GoesOn}
+use Rattle.voice_server.specs.Kept.{GoesOn}
 use Rattle.voice_main.proofs.Followed.{IsAt}
 use Rattle.voice_main.proofs.script_lines.run_lines.Given as goal
 

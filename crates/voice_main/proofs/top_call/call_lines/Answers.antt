@@ -9,7 +9,7 @@ returns-clause-so_far g c =
     let opened = c.in-Ok-open.ensures.state in
     let tapes : c.in-Ok-open.store.tapes ≡ arc_value c.args.scripted.now.tapes = search rules in (
       c.run_lines-ran.ensures.so_far.0,
-      ended g.D.Disk.told opened.0 c.args.disk store.origin store.disk c.close-disk.result.0 store.inside c.deref.result.now (arc_value c.args.scripted.now.tapes) c.args.scripted.now.script.lines c.run_lines-ran.ensures.so_far.0 store.history c.close-disk.result.1.items
+      ended g.D.Disk.told opened.0 c.args.disk store.origin store.disk c.close-disk.result.0 store.inside c.deref.result.now (arc_value c.args.scripted.now.tapes) c.args.scripted.now.script c.run_lines-ran.ensures.so_far.0 store.history c.close-disk.result.1.items
           (c.run_lines-ran.ensures.origin ∙ c.in-Ok-open.ensures.ok.0) c.close-disk.ensures.disk (c.run_lines-ran.ensures.stands opened.0 opened.1) opened.2 c.close-disk.ensures.inside.0 c.close-disk.ensures.history
           (c.close-disk.ensures.inside.1 ∙ c.run_lines-ran.ensures.tapes_stay ∙ tapes) c.deref.ensures c.run_lines-ran.ensures.so_far.1,
     )
@@ -20,6 +20,6 @@ returns-clause-finished g c = λ fine.
     let opened = c.in-Ok-open.ensures.state in
     let tapes : c.in-Ok-open.store.tapes ≡ arc_value c.args.scripted.now.tapes = search rules in
     let order = at_ok c.run_lines-ran.result (sym c.is_ok.ensures.value ∙ fine) c.run_lines-ran.ensures.whole in
-    ended g.D.Disk.told opened.0 c.args.disk store.origin store.disk c.close-disk.result.0 store.inside c.deref.result.now (arc_value c.args.scripted.now.tapes) c.args.scripted.now.script.lines (length c.args.scripted.now.script.lines) store.history c.close-disk.result.1.items
+    ended g.D.Disk.told opened.0 c.args.disk store.origin store.disk c.close-disk.result.0 store.inside c.deref.result.now (arc_value c.args.scripted.now.tapes) c.args.scripted.now.script (length c.args.scripted.now.script.lines) store.history c.close-disk.result.1.items
     (c.run_lines-ran.ensures.origin ∙ c.in-Ok-open.ensures.ok.0) c.close-disk.ensures.disk (c.run_lines-ran.ensures.stands opened.0 opened.1) opened.2 c.close-disk.ensures.inside.0 c.close-disk.ensures.history
     (c.close-disk.ensures.inside.1 ∙ c.run_lines-ran.ensures.tapes_stay ∙ tapes) c.deref.ensures (all_lines c.deref.result.now c.args.scripted.now.script.lines _ order)

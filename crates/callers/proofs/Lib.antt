@@ -1,0 +1,5 @@
+pub mod Built
+pub mod Lined
+pub mod Following
+pub mod Rows
+pub mod Sharing

@@ -1,0 +1,17 @@
+use Rattle.callers.specs.Seats.{pass_of, all_done}
+use Rattle.std.proofs.Common.{map, ◌++◌, ◌≡◌, subst, sym}
+use Rattle.std.specs.Prelude.{vec_capacity}
+use Rattle.callers.proofs.Rows.{passes_back, done_back, room_back}
+use Rattle.callers.proofs.seats.hand_back.Goals as goal
+
+pub loop-runner-preserved : goal.loop-runner-preserved
+loop-runner-preserved g c =
+    let was = c.loop-runner.invariant in
+    let runners = c.loop-runner.runners.items in
+    let rest = c.pop.new.self.items in
+    let r = c.in-Some.runner in
+    record {
+      all = subst (λ l. map pass_of rest ++ l ≡ map pass_of c.args.runners.items) (sym c.put_pass.ensures.items) (passes_back runners rest r c.loop-runner.passes.items (map pass_of c.args.runners.items) c.in-Some.ensures.items was.all);
+      done = done_back runners rest r c.loop-runner.all (all_done c.args.runners.items) c.in-Some.ensures.items was.done;
+      room = room_back runners rest r c.loop-runner.passes.items c.put_pass.new.passes.items (vec_capacity c.loop-runner.passes) (vec_capacity c.put_pass.new.passes) c.in-Some.ensures.items c.put_pass.ensures.items c.put_pass.ensures.room was.room;
+    }

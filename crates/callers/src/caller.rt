@@ -1,0 +1,45 @@
+//! All lines of a caller.
+
+ghost use Rattle.std.specs.Prelude.{ℕ, ◌≡◌, true, length};
+ghost use Rattle.script_lang.specs.Verbs.{is_built_verb};
+ghost use Rattle.script_lang.specs.Whole.{IsWhole};
+ghost use Rattle.turnstile.specs.Passes.{mine};
+ghost use Rattle.voice_server.specs.Served.{tapes_of, IsPassOf};
+ghost use Rattle.callers.specs.Lines.{Followed};
+
+use crate::lines::run_own_line;
+use script_lang::{Env, Script};
+use std::alloc::Global;
+use std::sync::Wait;
+use turnstile::Pass;
+use voice_model::Tapes;
+use voice_outside::{Disk, Gate};
+use voice_server::{Server, Standing};
+
+/// Runs the lines of the pass's caller in order. False where memory ran out; then the lines before stand, and perhaps that line's own entry.
+pub(crate) fn run_caller<R: Wait, D: Disk, G: Gate>(
+    rt: &R,
+    alloc: Global,
+    server: &Server<D>,
+    pass: &mut Pass<Standing<D>>,
+    script: &Script,
+    tapes: &Tapes,
+    gate: &G,
+) -> bool
+    requires pass { IsPassOf server.now pass.old }
+    requires tapes { tapes_of server.now ≡ tapes.now }
+    requires lines { IsWhole is_built_verb script.now }
+    requires samples { length tapes.now ≡ length script.now.samples }
+    ensures pass { IsPassOf server.now pass.new }
+    ensures caller { pass.new.caller ≡ pass.old.caller }
+    ensures whole { result ≡ true → Followed tapes.now script.now.lines (length script.now.lines) pass.old.caller (mine pass.old) (mine pass.new) }
+    ensures so_far { (k : ℕ) × Followed tapes.now script.now.lines k pass.old.caller (mine pass.old) (mine pass.new) }
+{
+    let mut variables = Env::new(alloc);
+    for line in &script.lines {
+        if run_own_line(rt, alloc, server, pass, tapes, line, &mut variables, gate).is_err() {
+            return false;
+        }
+    }
+    true
+}

@@ -1,0 +1,10 @@
+//! Callers: each runs its lines of a script in order, each on a thread of its own.
+#![tactic(auto)]
+
+mod caller;
+mod lines;
+mod seats;
+mod threads;
+
+pub use seats::Outcome;
+pub use threads::run_threads;

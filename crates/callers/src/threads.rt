@@ -1,0 +1,102 @@
+//! Each caller on a thread of its own.
+
+ghost use Rattle.std.specs.Prelude.{ℕ, ◌≡◌, ◌<◌, length, All, slice_index_or};
+ghost use Rattle.script_lang.specs.Verbs.{is_built_verb};
+ghost use Rattle.script_lang.specs.Whole.{IsWhole};
+ghost use Rattle.turnstile.specs.Passes.{AreOf};
+ghost use Rattle.voice_server.specs.Served.{tapes_of};
+ghost use Rattle.callers.specs.Seats.{IsReady, HasRun, EachRan};
+
+use crate::caller::run_caller;
+use crate::seats::{Outcome, Runner, hand_back, line_up};
+use script_lang::Script;
+use std::alloc::Global;
+use std::sync::Wait;
+use std::thread;
+use std::thread::Threads;
+use turnstile::Pass;
+use voice_model::Tapes;
+use voice_outside::{Disk, Gate};
+use voice_server::{Server, Standing};
+
+// The lines of one caller.
+fn run_one<R: Wait, D: Disk, G: Gate>(
+    rt: &R,
+    alloc: Global,
+    server: &Server<D>,
+    runner: &mut Runner<Pass<Standing<D>>>,
+    script: &Script,
+    tapes: &Tapes,
+    gate: &G,
+)
+    requires pass { IsReady server.now runner.old }
+    requires tapes { tapes_of server.now ≡ tapes.now }
+    requires lines { IsWhole is_built_verb script.now }
+    requires samples { length tapes.now ≡ length script.now.samples }
+    ensures { HasRun tapes.now script.now.lines server.now runner.old runner.new }
+{
+    runner.done = run_caller(rt, alloc, server, &mut runner.pass, script, tapes, gate);
+}
+
+// All callers, each on a thread of its own where one can be made.
+fn run_all<R: Threads + Wait + Sync, D: Disk, G: Gate>(
+    rt: &R,
+    alloc: Global,
+    server: &Server<D>,
+    runners: &mut [Runner<Pass<Standing<D>>>],
+    script: &Script,
+    tapes: &Tapes,
+    gate: &G,
+)
+    requires count { 0 < length runners.old }
+    requires ready { All (IsReady server.now) runners.old }
+    requires tapes { tapes_of server.now ≡ tapes.now }
+    requires lines { IsWhole is_built_verb script.now }
+    requires samples { length tapes.now ≡ length script.now.samples }
+    ensures { (i : ℕ) (d : _) → i < length runners.old → HasRun tapes.now script.now.lines server.now (slice_index_or runners.old i d) (slice_index_or runners.new i d) }
+{
+    let threads = runners.len();
+    let run = move |_: usize, runner: &mut Runner<Pass<Standing<D>>>|
+        requires { IsReady server.now runner.now × (tapes_of server.now ≡ tapes.now) × IsWhole is_built_verb script.now × (length tapes.now ≡ length script.now.samples) }
+        ensures { HasRun tapes.entry.now script.entry.now.lines server.entry.now runner.entry.now runner.exit.now }
+    { run_one(rt, alloc, server, runner, script, tapes, gate) };
+    thread::for_each_mut(rt, runners, threads, &run);
+}
+
+/// Runs each caller's lines in order, on a thread of its own, or on this one where none could be made. A caller that meets want of memory stops; where there is no memory to begin, none begins.
+pub fn run_threads<R: Threads + Wait + Sync, D: Disk, G: Gate>(
+    rt: &R,
+    alloc: Global,
+    server: &Server<D>,
+    mut passes: Vec<Pass<Standing<D>>>,
+    script: &Script,
+    tapes: &Tapes,
+    gate: &G,
+) -> Outcome<D>
+    requires count { 0 < length passes.items }
+    requires of { AreOf server.now.turnstile passes.items }
+    requires tapes { tapes_of server.now ≡ tapes.now }
+    requires lines { IsWhole is_built_verb script.now }
+    requires samples { length tapes.now ≡ length script.now.samples }
+    ensures of { AreOf server.now.turnstile result.passes.items }
+    ensures each { EachRan tapes.now script.now.lines result.memory passes.items result.passes.items }
+{
+    let Ok(mut runners) = Vec::with_capacity(alloc, passes.len()) else {
+        return Outcome {
+            passes,
+            memory: false,
+        };
+    };
+    line_up(&mut passes, &mut runners);
+    run_all(
+        rt,
+        alloc,
+        server,
+        runners.as_mut_slice(),
+        script,
+        tapes,
+        gate,
+    );
+    let memory = hand_back(runners, &mut passes);
+    Outcome { passes, memory }
+}

@@ -1,0 +1,3 @@
+pub mod Adds
+pub mod Keeping
+pub mod Moving
