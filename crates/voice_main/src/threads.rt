@@ -5,6 +5,7 @@ ghost use Rattle.std.specs.Arc.{arc_value};
 ghost use Rattle.script_lang.specs.Verbs.{is_built_verb};
 ghost use Rattle.script_lang.specs.Whole.{IsWhole};
 ghost use Rattle.voice_server.specs.Kept.{GoesOn, IsKept};
+ghost use Rattle.voice_main.specs.Outside.{IsUnchanged};
 ghost use Rattle.voice_main.specs.Ran.{Performed, Begun, Made};
 ghost use Rattle.voice_main.specs.Statuses.{Opens};
 
@@ -73,6 +74,7 @@ pub(crate) fn call_on_threads<R: Threads + Wait + Sync, D: Disk, G: Gate>(
     ensures so_far { IfOk result (λ called. (k : ℕ) × Performed (arc_value scripted.now.tapes) (Begun true (arc_value scripted.now.tapes) scripted.now.script k called.history.items) (D.told disk) (D.told called.disk) called.history.items) }
     ensures finished { IfOk result (λ called. called.is_finished ≡ true → Performed (arc_value scripted.now.tapes) (Made true (arc_value scripted.now.tapes) scripted.now.script called.history.items) (D.told disk) (D.told called.disk) called.history.items) }
     ensures opens { IfErr result (λ e. Opens (D.told disk) (D.told e.1) e.0) }
+    ensures looks { IfErr result (λ e. IsUnchanged (D.told disk) (D.told e.1)) }
     ensures goes { IfOk result (λ called. GoesOn (D.told disk) (D.told called.disk)) }
     ensures goes_back { IfErr result (λ e. GoesOn (D.told disk) (D.told e.1)) }
 {
