@@ -7,7 +7,8 @@ use Rattle.voice_model.specs.Step.{Legal}
 use Rattle.voice_model.specs.Image.{opened_from}
 use Rattle.voice_model.specs.declared.calls.Entry.{Entry}
 use Rattle.voice_store.specs.Facts.{Goes}
-use Rattle.voice_store.specs.Shown.{Shown, Stands, IsSeen}
+use Rattle.voice_store.specs.Shown.{Shown, Keeps, history_of, tapes_in}
+use Rattle.voice_store.proofs.Histories.{keeps_legal}
 use Rattle.turnstile.specs.Passes.{made_with}
 use Rattle.voice_server.specs.declared.born.Born.{Born}
 use Rattle.voice_server.specs.declared.hall.Hall.{Hall}
@@ -19,25 +20,21 @@ goes_further : (most : ℕ) (a b c : Told) → GoesOn a b → Goes most b c → 
 goes_further most a b c p q = record { size = q.size ∙ p.size; honest = q.honest ∙ p.honest; later = (let x = p.later in let y = q.later in omega arith); faults = (let x = p.faults in let y = q.faults in omega arith) }
 
 module _ {D : Type 0} (told : D → Told) where
-  pub kept_on : (old new : Shown D) (most : ℕ) → IsKept told old → ((first : State) → Stands first (told old.origin) (told old.disk) old.inside → Stands first (told new.origin) (told new.disk) new.inside)
-      → Goes most (told old.disk) (told new.disk) → new.origin ≡ old.origin → IsSeen new → IsKept told new
-  kept_on old new most was on goes origin seen = record {
+  pub kept_on : (old new : Shown D) (most : ℕ) → IsKept told old → ((first : State) → Keeps told first old → Keeps told first new)
+      → Goes most (told old.disk) (told new.disk) → new.origin ≡ old.origin → IsKept told new
+  kept_on old new most was on goes origin = record {
     first = was.first;
-    stands = on was.first was.stands;
+    keeps = on was.first was.keeps;
     opened = subst (λ d. IsTrue (told d).honest → opened_from (told d).bytes ≡ Some was.first) (sym origin) was.opened;
     goes = subst (λ d. GoesOn (told d) (told new.disk)) (sym origin) (goes_further most (told old.origin) (told old.disk) (told new.disk) was.goes goes);
-    seen = seen;
   }
 
-  legal_of : (s : Shown D) → (k : IsKept told s) → Legal k.first s.tapes s.history
-  legal_of s k = subst (λ h. Legal k.first s.tapes h) k.seen.history (subst (λ t. Legal k.first t s.inside.history.items) k.seen.tapes k.stands.stood.upright.legal)
-
-  pub legal_from : (server : Hall (Standing D) (Born D)) (s : Shown D) (history : List Entry) → IsKept told s → origin_of (record { store = s }) ≡ origin_of (made_with server.turnstile) → history ≡ s.history → IsLegalFrom told server history
+  pub legal_from : (server : Hall (Standing D) (Born D)) (s : Shown D) (history : List Entry) → IsKept told s → origin_of (record { store = s }) ≡ origin_of (made_with server.turnstile) → history ≡ history_of s → IsLegalFrom told server history
   legal_from server s history k same is = (
     k.first,
     record { opened = subst (λ d. IsTrue (told d).honest → opened_from (told d).bytes ≡ Some k.first) (ap (λ (b : Born D). b.disk) same) k.opened },
-    subst (λ t. Legal k.first t history) (ap (λ (b : Born D). b.tapes) same) (subst (λ h. Legal k.first s.tapes h) (sym is) (legal_of s k)),
+    subst (λ t. Legal k.first t history) (ap (λ (b : Born D). b.tapes) same) (subst (λ h. Legal k.first (tapes_in s) h) (sym is) (keeps_legal told k.first s k.keeps)),
   )
 
-pub same_origin : {D : Type 0} (old new : Shown D) → new.origin ≡ old.origin → new.tapes ≡ old.tapes → origin_of (record { store = new }) ≡ origin_of (record { store = old })
+pub same_origin : {D : Type 0} (old new : Shown D) → new.origin ≡ old.origin → tapes_in new ≡ tapes_in old → origin_of (record { store = new }) ≡ origin_of (record { store = old })
 same_origin old new origin tapes = λ i. record { disk = origin i; tapes = tapes i }

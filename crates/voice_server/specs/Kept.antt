@@ -6,7 +6,8 @@ use Rattle.voice_outside.specs.Disk.{Told}
 use Rattle.voice_model.specs.State.{State}
 use Rattle.voice_model.specs.Image.{opened_from}
 use Rattle.voice_model.specs.declared.calls.Entry.{Entry}
-use Rattle.voice_store.specs.Shown.{Shown, Stands, IsSeen}
+use Rattle.voice_store.specs.Shown.{Shown, Keeps, tapes_in}
+use Rattle.voice_store.specs.Shown as shown
 use Rattle.voice_server.specs.declared.born.Born.{Born}
 use Rattle.voice_server.specs.declared.standing.Standing.{Standing}
 
@@ -20,14 +21,13 @@ pub record GoesOn (old new : Told) : Type 0 where
 -- all that a store keeps, from the disk that it was opened on: an honest disk was opened as what its bytes recover; the history is legal from there, and held
 pub record IsKept {D : Type 0} (told : D → Told) (s : Shown D) : Type 0 where
   pub first : State
-  pub stands : Stands first (told s.origin) (told s.disk) s.inside
+  pub keeps : Keeps told first s
   pub opened : IsTrue (told s.origin).honest → opened_from (told s.origin).bytes ≡ Some first
   pub goes : GoesOn (told s.origin) (told s.disk)
-  pub seen : IsSeen s
 
 module _ {D : Type 0} where
   abbrev pub history_of : Standing D → List Entry
-  history_of s = s.store.history
+  history_of s = shown.history_of s.store
 
   abbrev pub origin_of : Standing D → Born D
-  origin_of s = record { disk = s.store.origin; tapes = s.store.tapes }
+  origin_of s = record { disk = s.store.origin; tapes = tapes_in s.store }

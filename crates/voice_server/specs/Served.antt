@@ -12,7 +12,7 @@ use Rattle.voice_model.specs.Image.{opened_from}
 use Rattle.voice_model.specs.declared.calls.Call.{Call}
 use Rattle.voice_model.specs.declared.calls.Reply.{Reply}
 use Rattle.voice_model.specs.declared.calls.Entry.{Entry}
-use Rattle.voice_store.specs.Shown.{Shown}
+use Rattle.voice_store.specs.Shown.{Shown, history_of, tapes_in}
 use Rattle.turnstile.specs.declared.parts.Pass.{Pass}
 use Rattle.turnstile.specs.Turns.{Begins, Every, StandsIn, IsOfPasses}
 use Rattle.turnstile.specs.Passes.{IsOf, IsOutside, seen, mine, made_with, callers_of}
@@ -26,7 +26,7 @@ module _ {D : Type 0} where
   store_of s = (made_with s.turnstile).store
 
   abbrev pub tapes_of : Hall (Standing D) (Born D) → List (List ℕ)
-  tapes_of s = (store_of s).tapes
+  tapes_of s = tapes_in (store_of s)
 
   -- a pass of this server that is outside
   abbrev pub IsPassOf : Hall (Standing D) (Born D) → Pass (Standing D) (Born D) → Type 0
@@ -53,6 +53,6 @@ module _ {D : Type 0} where
 
   -- the history that the server is closed with: what each pass has seen begins it, what each caller did is all that it has of the caller since the server was made, and all else are landings
   pub record IsClosed (s : Hall (Standing D) (Born D)) (passes : List (Pass (Standing D) (Born D))) (history : List Entry) : Type 0 where
-    pub begins : Begins (store_of s).history history
-    pub passes_stand : Every (λ p. StandsIn (store_of s).history history p.caller (seen p) (mine p)) passes
-    pub others : Every (IsOfPasses (callers_of s.turnstile)) (drop (length (store_of s).history) history)
+    pub begins : Begins (history_of (store_of s)) history
+    pub passes_stand : Every (λ p. StandsIn (history_of (store_of s)) history p.caller (seen p) (mine p)) passes
+    pub others : Every (IsOfPasses (callers_of s.turnstile)) (drop (length (history_of (store_of s))) history)

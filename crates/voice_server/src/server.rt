@@ -4,7 +4,9 @@ ghost use Rattle.std.specs.Prelude.{◌≡◌, ◌<◌, ◌≤◌, ◌+◌, leng
 ghost use Rattle.voice_store.specs.Facts.{Adds, AddsLanding, TakesAreIn, HasRopes, is_built};
 ghost use Rattle.turnstile.specs.Turns.{Begins};
 ghost use Rattle.turnstile.specs.Passes.{mine, seen, callers_of, AreOf, AreNewFrom};
-ghost use Rattle.voice_server.specs.Kept.{IsKept, history_of};
+ghost use Rattle.voice_store.specs.Shown.{history_of, tapes_in};
+ghost use Rattle.voice_server.specs.Kept.{IsKept};
+ghost use Rattle.voice_server.specs.Kept as kept;
 ghost use Rattle.voice_server.specs.Served.{store_of, tapes_of, IsPassOf, AddsEntry, IsLegalFrom, IsClosed};
 
 use crate::hall::{Hall, Server};
@@ -19,8 +21,8 @@ use voice_units::NoMemory;
 
 // How many entries a history of length `before` gained.
 fn gained<D: Disk>(store: &Store<D>, before: usize) -> u32
-    requires { (before ≤ length store.now.history) × (length store.now.history ≤ before + 2) }
-    ensures { before + result ≡ length store.now.history }
+    requires { (before ≤ length (history_of store.now)) × (length (history_of store.now) ≤ before + 2) }
+    ensures { before + result ≡ length (history_of store.now) }
 {
     (store.history().len() - before) as u32
 }
@@ -34,7 +36,7 @@ impl<D: Disk> Hall<Standing<D>> {
     ) -> Result<(Server<D>, Vec<Pass<Standing<D>>>), (NoMemory, Store<D>)>
         requires callers { (0 < callers) × (callers ≤ 16) }
         requires kept { IsKept D.told store }
-        ensures ok { IfOk result (λ r. (store_of r.0 ≡ store) × (callers_of r.0.turnstile ≡ callers) × (length r.1.items ≡ callers) × AreNewFrom history_of r.0.turnstile 1 r.1.items) }
+        ensures ok { IfOk result (λ r. (store_of r.0 ≡ store) × (callers_of r.0.turnstile ≡ callers) × (length r.1.items ≡ callers) × AreNewFrom kept.history_of r.0.turnstile 1 r.1.items) }
         ensures of { IfOk result (λ r. AreOf r.0.turnstile r.1.items) }
         ensures err { IfErr result (λ r. r.1 ≡ store) }
     {
@@ -76,9 +78,9 @@ impl<D: Disk> Hall<Standing<D>> {
         requires of { AreOf self.turnstile passes.items }
         requires all { length passes.items ≡ callers_of self.turnstile }
         ensures kept { IsKept D.told result }
-        ensures same { (result.origin ≡ (store_of self).origin) × (result.tapes ≡ (store_of self).tapes) }
+        ensures same { (result.origin ≡ (store_of self).origin) × (tapes_in result ≡ tapes_of self) }
         // What each pass has seen begins the history; what its caller did is all that the history has of it since the server was made, and all else are landings.
-        ensures closed { IsClosed self passes.items result.history }
+        ensures closed { IsClosed self passes.items (history_of result) }
     {
         let Hall { turnstile } = self;
         let Standing { store } = turnstile.close(passes);

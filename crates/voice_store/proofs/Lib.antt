@@ -6,6 +6,7 @@ pub mod Faults
 pub mod Fewer
 pub mod FirstStates
 pub mod Going
+pub mod Histories
 pub mod Kept
 pub mod Landed
 pub mod Making
@@ -17,6 +18,7 @@ pub mod Refusals
 pub mod Refused
 pub mod Results
 pub mod Rooms
+pub mod Sending
 pub mod Settled
 pub mod Spare
 pub mod Spared

@@ -169,3 +169,11 @@ module _ (first : State) (t0 : ℕ) (disk : Told) (s : Inside) (stood : Stood fi
       by : IsSure s stood.b stood.after last ⊎ IsUnsure s stood.b stood.after last → ShowsState s.parts last
       by (inl sure) = record { rebuilt = stood.b; tables = sure.tables; fill = stood.fill; fills = stood.upright.fills }
       by (inr unsure) = absurd (none_some unsure.pending (sym none ∙ unsure.in_state))
+
+  -- where the state has nothing in doubt, the store has nothing in doubt
+  pub nothing_waits : last.doubt ≡ None → s.doubt ≡ None
+  nothing_waits none = by stood.tables
+    where
+      by : IsSure s stood.b stood.after last ⊎ IsUnsure s stood.b stood.after last → s.doubt ≡ None
+      by (inl sure) = sure.sure
+      by (inr unsure) = absurd (none_some unsure.pending (sym none ∙ unsure.in_state))

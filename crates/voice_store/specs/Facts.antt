@@ -5,12 +5,13 @@
 --     Adds caller call reply ack old new      the entry of a call came last, after a landing where one was made
 --     AddsLanding old new      no entry came, or that of a landing
 --     Goes most old new      the counts of a disk after at most so many calls
+--     OnlyLooked old new      no byte of a disk is changed, and a crash leaves nothing new
 --     IsFault reply      a reply that tells of a device fault
 --     TakesAreIn, HasRopes      what the store wants of the words of a call
 --     is_built call, is_edit call      a call that the store can do;  one that makes a rope of others
 --     most_calls block call      how many device calls its answer takes at most
 use Rattle.std.specs.Prelude.{◌≡◌, ◌⊎◌, ℕ, ◌+◌, ◌≤◌, Bool, true, false, List, [], ◌∷◌, ◌++◌, length, Some, None}
-use Rattle.voice_outside.specs.Disk.{Told}
+use Rattle.voice_outside.specs.Disk.{Told, Now, Leaves}
 use Rattle.voice_model.specs.Samples.{Tagged}
 use Rattle.voice_model.specs.State.{State, Effect}
 use Rattle.voice_model.specs.Changes.{committed}
@@ -61,6 +62,12 @@ pub record Goes (most : ℕ) (old new : Told) : Type 0 where
   pub later : old.calls ≤ new.calls
   pub calls : new.calls ≤ old.calls + most
   pub faults : old.faults ≤ new.faults
+
+-- no byte of a disk is changed, and a crash leaves nothing new
+pub record OnlyLooked (old new : Told) : Type 0 where
+  pub bytes : new.bytes ≡ old.bytes
+  pub now : Now new (λ image. old.may_leave old.calls image)
+  pub crash : Leaves old new (λ image. old.may_leave old.calls image)
 
 -- a reply that tells of a device fault
 abbrev pub IsFault : Reply → Type 0

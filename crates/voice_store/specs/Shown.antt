@@ -1,22 +1,23 @@
 -- What contracts see of a store.
---     Shown      its disk, the disk as it was opened, its tapes, its history, and what it keeps besides
+--     Shown      its disk, the disk as it was opened, and what it keeps besides, which is named in this crate alone
+--     history_of s, tapes_in s, block_of s      its history, its tapes, the length of a block
+--     HasRoomFor n s      the history takes so many entries more without memory
 --     FaultsCover low history high      there are at most so many entries of faults as faults rose, unless their count is at its end
 --     Stands first origin disk inside      the store was opened in this state, and all its history is legal from it and held
 --     IsWhole origin disk inside      the store stands for some history
---     IsSeen s      the history and the tapes that contracts see are those that it keeps
-use Rattle.std.specs.Prelude.{◌≡◌, ℕ, ◌+◌, ◌-◌, ◌^◌, ◌<◌, ◌≤◌, List, count_by}
+--     Keeps told first s      the same, of what contracts see
+--     state_of first s      the state after the history
+use Rattle.std.specs.Prelude.{◌≡◌, ℕ, ◌+◌, ◌-◌, ◌^◌, ◌<◌, ◌≤◌, List, count_by, vec_len, vec_capacity}
 use Rattle.std.specs.Arc.{arc_value}
 use Rattle.voice_outside.specs.Disk.{Told}
 use Rattle.voice_model.specs.State.{State}
 use Rattle.voice_model.specs.declared.calls.Entry.{Entry}
-use Rattle.voice_store.specs.Stood.{Stood, is_fault}
+use Rattle.voice_store.specs.Stood.{Stood, is_fault, last_state}
 use Rattle.voice_store.specs.declared.inside.Inside.{Inside}
 
 pub record Shown (D : Type 0) : Type 0 where
   pub disk : D
   pub origin : D
-  pub tapes : List (List ℕ)
-  pub history : List Entry
   pub inside : Inside
 
 -- there are at most so many entries of faults as faults rose, unless their count is at its end
@@ -35,7 +36,25 @@ pub record IsWhole (origin disk : Told) (inside : Inside) : Type 0 where
   pub first : State
   pub stands : Stands first origin disk inside
 
--- the history and the tapes that contracts see are those that it keeps
-pub record IsSeen {D : Type 0} (s : Shown D) : Type 0 where
-  pub history : s.inside.history.items ≡ s.history
-  pub tapes : arc_value s.inside.tapes ≡ s.tapes
+module _ {D : Type 0} where
+  abbrev pub history_of : Shown D → List Entry
+  history_of s = s.inside.history.items
+
+  abbrev pub tapes_in : Shown D → List (List ℕ)
+  tapes_in s = arc_value s.inside.tapes
+
+  -- the length of a block
+  abbrev pub block_of : Shown D → ℕ
+  block_of s = s.inside.journal.shape.block
+
+  -- the history takes so many entries more without memory
+  abbrev pub HasRoomFor : ℕ → Shown D → Type 0
+  HasRoomFor n s = vec_len s.inside.history + n ≤ vec_capacity s.inside.history
+
+  -- the store was opened in this state, and all its history is legal from it and held
+  abbrev pub Keeps : (D → Told) → State → Shown D → Type 0
+  Keeps told first s = Stands first (told s.origin) (told s.disk) s.inside
+
+  -- the state after the history
+  abbrev pub state_of : State → Shown D → State
+  state_of first s = last_state first (tapes_in s) (history_of s)

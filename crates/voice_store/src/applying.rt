@@ -39,6 +39,7 @@ impl Inside {
         ensures sure { result ≡ true → self.new.doubt ≡ None }
         ensures unsure { result ≡ false → (first : State) (t0 : ℕ) → Stood first t0 (D.told disk.old) self.old → IsTrue (is_some (last_of first self.new).doubt) }
         ensures history { AddsLanding self.old.history.items self.new.history.items }
+        ensures still { self.old.doubt ≡ None → (disk.new ≡ disk.old) × (self.new ≡ self.old) }
         ensures room { vec_len self.new.history < vec_capacity self.new.history }
         ensures tapes { self.new.tapes ≡ self.old.tapes }
         ensures stood { (first : State) (t0 : ℕ) → Stood first t0 (D.told disk.old) self.old → Stood first t0 (D.told disk.new) self.new }
@@ -74,6 +75,7 @@ impl Inside {
         ensures cause { IfOk result (λ reply. IsFault reply → HasRisen (D.told disk.old).faults (D.told disk.new).faults) }
         ensures items { IfOk result (λ reply. self.new.history.items ≡ self.old.history.items ++ entry_of caller call reply (D.told disk.new).calls ∷ []) }
         ensures err { OnErr result (self.new.history.items ≡ self.old.history.items) }
+        ensures still { OnErr result (disk.new ≡ disk.old) }
         ensures tapes { self.new.tapes ≡ self.old.tapes }
         ensures stood { (first : State) (t0 : ℕ) → Stood first t0 (D.told disk.old) self.old → Stood first t0 (D.told disk.new) self.new }
     {
@@ -105,6 +107,8 @@ impl Inside {
         ensures cause { IfOk result (λ reply. IsFault reply → HasRisen (D.told disk.old).faults (D.told disk.new).faults) }
         ensures entry { IfOk result (λ reply. Adds caller call reply (D.told disk.new).calls self.old.history.items self.new.history.items) }
         ensures err { OnErr result (AddsLanding self.old.history.items self.new.history.items) }
+        ensures few { OnErr result (Goes 2 (D.told disk.old) (D.told disk.new)) }
+        ensures still { self.old.doubt ≡ None → OnErr result ((disk.new ≡ disk.old) × (self.new.history.items ≡ self.old.history.items)) }
         ensures tapes { self.new.tapes ≡ self.old.tapes }
         ensures stood { (first : State) (t0 : ℕ) → Stood first t0 (D.told disk.old) self.old → Stood first t0 (D.told disk.new) self.new }
     {
@@ -127,6 +131,8 @@ impl Inside {
         requires ropes { HasRopes call }
         ensures entry { IfOk result (λ reply. Adds caller call reply (D.told disk.new).calls self.old.history.items self.new.history.items) }
         ensures err { OnErr result (AddsLanding self.old.history.items self.new.history.items) }
+        ensures few { OnErr result (Goes 2 (D.told disk.old) (D.told disk.new)) }
+        ensures still { self.old.doubt ≡ None → OnErr result ((disk.new ≡ disk.old) × (self.new.history.items ≡ self.old.history.items)) }
         ensures spare { (rope : ℕ) → call ≡ Call.Length rope → vec_len self.old.history + 2 ≤ vec_capacity self.old.history → IsOk result }
         ensures cause { IfOk result (λ reply. IsFault reply → HasRisen (D.told disk.old).faults (D.told disk.new).faults) }
         ensures goes { (block : ℕ) → Goes (most_calls block call) (D.told disk.old) (D.told disk.new) }

@@ -89,6 +89,7 @@ impl Inside {
         ensures cause { IfOk result (λ reply. IsFault reply → HasRisen (D.told disk.old).faults (D.told disk.new).faults) }
         ensures items { IfOk result (λ reply. self.new.history.items ≡ self.old.history.items ++ entry_of caller call reply (D.told disk.new).calls ∷ []) }
         ensures err { OnErr result (self.new.history.items ≡ self.old.history.items) }
+        ensures still { OnErr result (disk.new ≡ disk.old) }
         ensures tapes { self.new.tapes ≡ self.old.tapes }
         ensures stood { (first : State) (t0 : ℕ) → HasWay first t0 (D.told disk.old) self.old call pieces need way → Stood first t0 (D.told disk.new) self.new }
     {
@@ -117,6 +118,7 @@ impl Inside {
         ensures cause { IfOk result (λ reply. IsFault reply → HasRisen (D.told disk.old).faults (D.told disk.new).faults) }
         ensures items { IfOk result (λ reply. self.new.history.items ≡ self.old.history.items ++ entry_of caller call reply (D.told disk.new).calls ∷ []) }
         ensures err { OnErr result (self.new.history.items ≡ self.old.history.items) }
+        ensures still { OnErr result (disk.new ≡ disk.old) }
         ensures tapes { self.new.tapes ≡ self.old.tapes }
         ensures stood { (first : State) (t0 : ℕ) → MakesRope first t0 (D.told disk.old) self.old call pieces → Stood first t0 (D.told disk.new) self.new }
     {
@@ -149,6 +151,7 @@ impl Inside {
         ensures cause { IfOk result (λ reply. IsFault reply → HasRisen (D.told disk.old).faults (D.told disk.new).faults) }
         ensures items { IfOk result (λ reply. self.new.history.items ≡ self.old.history.items ++ entry_of caller call reply (D.told disk.new).calls ∷ []) }
         ensures err { OnErr result (self.new.history.items ≡ self.old.history.items) }
+        ensures still { OnErr result (disk.new ≡ disk.old) }
         ensures tapes { self.new.tapes ≡ self.old.tapes }
         ensures stood { (first : State) (t0 : ℕ) → Stood first t0 (D.told disk.old) self.old → Stood first t0 (D.told disk.new) self.new }
     {

@@ -1,8 +1,9 @@
 //! Opens what a disk keeps.
 
-ghost use Rattle.std.specs.Prelude.{◌≡◌, ◌+◌, ◌-◌, ◌<◌, ◌^◌, ℕ, [], length, slice_get, Some, IsTrue, IfOk, IfErr};
+ghost use Rattle.std.specs.Prelude.{◌≡◌, ◌+◌, ◌-◌, ◌<◌, ◌^◌, ℕ, [], length, slice_get, Some, IsTrue, IfOk, IfErr, OnOk};
 ghost use Rattle.voice_units.specs.Spots.{Spot};
 ghost use Rattle.voice_outside.specs.Counters.{HasRisen};
+ghost use Rattle.voice_journal.specs.Looks.{Since};
 ghost use Rattle.voice_model.specs.Samples.{Tagged, spot_of};
 ghost use Rattle.voice_model.specs.State.{State};
 ghost use Rattle.voice_model.specs.Changes.{base_size};
@@ -11,7 +12,7 @@ ghost use Rattle.voice_model.specs.Image.{Reading, Replayed, reading, replayed, 
 ghost use Rattle.recovery.specs.Replayed.{records_of};
 ghost use Rattle.recovery.specs.Shown.{Rebuilds};
 ghost use Rattle.voice_store.specs.Stood.{Stood};
-ghost use Rattle.voice_store.specs.Facts.{Goes};
+ghost use Rattle.voice_store.specs.Facts.{Goes, OnlyLooked};
 
 use crate::inside::Inside;
 use checkpoint::compact_parts;
@@ -65,6 +66,8 @@ impl Inside {
         tapes: Arc<Tapes, Global>,
     ) -> Result<Inside, OpenError>
         ensures goes { Goes 5 (D.told disk.old) (D.told disk.new) }
+        ensures looks { IsTrue (D.told disk.old).honest → OnlyLooked (D.told disk.old) (D.told disk.new) }
+        ensures since { IsTrue (D.told disk.old).honest → OnOk result (Since ((D.told disk.old).calls + 1) (D.told disk.new) (λ image. image ≡ (D.told disk.old).bytes)) }
         ensures fields { IfOk result (λ s. (s.tapes ≡ tapes) × (s.history.items ≡ [])) }
         ensures state { IfOk result (λ s. (first : State) × Stood first ((D.told disk.old).calls + 1) (D.told disk.new) s × (IsTrue (D.told disk.old).honest → opened_from (D.told disk.old).bytes ≡ Some first)) }
         ensures bad { IfErr result (λ e. (place : ℕ) → e ≡ OpenError.BadDisk place → IsTrue (D.told disk.old).honest → reading (D.told disk.old).bytes ≡ Reading.Bad place) }

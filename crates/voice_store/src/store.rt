@@ -1,17 +1,18 @@
 //! The store.
 
-ghost use Rattle.std.specs.Prelude.{◌≡◌, ◌≤◌, ◌+◌, ◌-◌, ◌⊎◌, ℕ, [], Some, None, IsTrue, IsOk, IfOk, IfErr, OnOk, OnErr, vec_len, vec_capacity};
+ghost use Rattle.std.specs.Prelude.{◌≡◌, ◌≤◌, ◌+◌, ◌-◌, ◌⊎◌, ℕ, [], Some, None, IsTrue, IsOk, IfOk, IfErr, OnOk, OnErr};
 ghost use Rattle.std.specs.Arc.{arc_value};
 ghost use Rattle.voice_outside.specs.Counters.{HasRisen};
 ghost use Rattle.voice_outside.specs.Disk.{MakesAtMost, Now};
 ghost use Rattle.voice_journal.specs.Readings.{extent};
+ghost use Rattle.voice_journal.specs.Looks.{Since};
 ghost use Rattle.voice_journal.specs.Formatted.{IsFormatted, SameButHeads};
 ghost use Rattle.voice_model.specs.State.{State, formatted};
 ghost use Rattle.voice_model.specs.Room.{free};
 ghost use Rattle.voice_model.specs.Image.{Reading, reading, opened_from};
-ghost use Rattle.voice_store.specs.Shown.{Stands, IsSeen};
-ghost use Rattle.voice_store.specs.Stood.{ShowsState, last_state};
-ghost use Rattle.voice_store.specs.Facts.{Adds, AddsLanding, Goes, IsFault, TakesAreIn, HasRopes, is_built, most_calls};
+ghost use Rattle.voice_store.specs.Shown.{Keeps, HasRoomFor, history_of, tapes_in, block_of, state_of};
+ghost use Rattle.voice_store.specs.Stood.{ShowsState};
+ghost use Rattle.voice_store.specs.Facts.{Adds, AddsLanding, Goes, OnlyLooked, IsFault, TakesAreIn, HasRopes, is_built, most_calls};
 
 use crate::inside::Inside;
 use journal_readings::laws::opens_empty;
@@ -34,12 +35,11 @@ pub struct Store<D: Disk> {
 }
 
 impl<D: Disk> Model for Store<D> {
-    ghost use Rattle.std.specs.Arc.{arc_value};
     ghost use Rattle.voice_store.specs.Shown.{Shown, IsWhole};
 
     ghost Value = { Shown D };
 
-    ghost view = { λ s. record { disk = s.disk; origin = s.origin.value; tapes = arc_value s.inside.tapes; history = s.inside.history.items; inside = s.inside } };
+    ghost view = { λ s. record { disk = s.disk; origin = s.origin.value; inside = s.inside } };
 
     ghost invariant = { λ s. IsWhole (D.told s.origin.value) (D.told s.disk) s.inside };
 }
@@ -64,12 +64,13 @@ impl<D: Disk> Store<D> {
         mut disk: D,
         tapes: Arc<Tapes, Global>,
     ) -> Result<Store<D>, (OpenError, D)>
-        ensures ok { IfOk result (λ s. (s.origin ≡ disk) × (s.tapes ≡ arc_value tapes) × (s.history ≡ []) × Goes 5 (D.told disk) (D.told s.disk)) }
+        ensures ok { IfOk result (λ s. (s.origin ≡ disk) × (tapes_in s ≡ arc_value tapes) × (history_of s ≡ []) × Goes 5 (D.told disk) (D.told s.disk)) }
         // The opened state is what the disk's bytes recover.
-        ensures state { IfOk result (λ s. (first : State) × Stands first (D.told s.origin) (D.told s.disk) s.inside × (IsTrue (D.told disk).honest → opened_from (D.told disk).bytes ≡ Some first)) }
-        // What contracts see of a store is what it keeps.
-        ensures seen { IfOk result (λ s. IsSeen s) }
+        ensures state { IfOk result (λ s. (first : State) × Keeps D.told first s × (IsTrue (D.told disk).honest → opened_from (D.told disk).bytes ≡ Some first)) }
+        // From the first sync on, each crash leaves the bytes that were read.
+        ensures since { IfOk result (λ s. IsTrue (D.told disk).honest → OnlyLooked (D.told disk) (D.told s.disk) × Since ((D.told disk).calls + 1) (D.told s.disk) (λ image. image ≡ (D.told disk).bytes)) }
         ensures goes { IfErr result (λ e. Goes 5 (D.told disk) (D.told e.1)) }
+        ensures looks { IfErr result (λ e. IsTrue (D.told disk).honest → OnlyLooked (D.told disk) (D.told e.1)) }
         ensures bad { IfErr result (λ e. (place : ℕ) → e.0 ≡ OpenError.BadDisk place → IsTrue (D.told disk).honest → reading (D.told disk).bytes ≡ Reading.Bad place) }
         ensures fault { IfErr result (λ e. e.0 ≡ OpenError.DiskFault → HasRisen (D.told disk).faults (D.told e.1).faults) }
     {
@@ -87,39 +88,41 @@ impl<D: Disk> Store<D> {
     /// Makes a call for a caller, and adds its entry to the history, after a landing where a change was in doubt and the call is of a kind that makes changes. After `NoMemory` nothing of the call is done, but a change in doubt may have landed.
     pub fn apply(&mut self, caller: u16, call: Call) -> Result<Reply, NoMemory>
         requires built { IsTrue (is_built call) }
-        requires takes { TakesAreIn self.old.tapes call }
+        requires takes { TakesAreIn (tapes_in self.old) call }
         requires ropes { HasRopes call }
         requires caller_least { 1 ≤ caller }
         requires caller_most { caller ≤ 16 }
-        ensures entry { IfOk result (λ reply. Adds caller call reply (D.told self.new.disk).calls self.old.history self.new.history) }
-        ensures err { OnErr result (AddsLanding self.old.history self.new.history) }
+        ensures entry { IfOk result (λ reply. Adds caller call reply (D.told self.new.disk).calls (history_of self.old) (history_of self.new)) }
+        ensures err { OnErr result (AddsLanding (history_of self.old) (history_of self.new)) }
         // The history stays legal, and what a crash may leave since an entry is that entry's state or a later one.
-        ensures state { (first : State) → Stands first (D.told self.old.origin) (D.told self.old.disk) self.old.inside → Stands first (D.told self.new.origin) (D.told self.new.disk) self.new.inside }
+        ensures state { (first : State) → Keeps D.told first self.old → Keeps D.told first self.new }
         // A length takes no memory where there is room for its entry and one more.
-        ensures spare { (rope : ℕ) → call ≡ Call.Length rope → vec_len self.old.inside.history + 2 ≤ vec_capacity self.old.inside.history → IsOk result }
+        ensures spare { (rope : ℕ) → call ≡ Call.Length rope → HasRoomFor 2 self.old → IsOk result }
         ensures cause { IfOk result (λ reply. IsFault reply → HasRisen (D.told self.old.disk).faults (D.told self.new.disk).faults) }
-        ensures goes { Goes (most_calls self.old.inside.journal.shape.block call) (D.told self.old.disk) (D.told self.new.disk) }
+        ensures goes { Goes (most_calls (block_of self.old) call) (D.told self.old.disk) (D.told self.new.disk) }
+        // A call for which there is no memory makes no device call but those of a landing.
+        ensures few { OnErr result (Goes 2 (D.told self.old.disk) (D.told self.new.disk)) }
+        ensures still { (first : State) → Keeps D.told first self.old → (state_of first self.old).doubt ≡ None → OnErr result ((self.new.disk ≡ self.old.disk) × (history_of self.new ≡ history_of self.old)) }
         ensures origin { self.new.origin ≡ self.old.origin }
-        ensures tapes { self.new.tapes ≡ self.old.tapes }
-        ensures seen { IsSeen self.new }
+        ensures tapes { tapes_in self.new ≡ tapes_in self.old }
     {
         self.inside.apply(&mut self.disk, caller, call)
     }
 
     /// Makes room for so many entries of the history; all else stays, whatever the answer.
     pub fn reserve(&mut self, n: u32) -> Result<(), NoMemory>
-        ensures room { OnOk result (vec_len self.new.inside.history + n ≤ vec_capacity self.new.inside.history) }
-        ensures spare { vec_len self.old.inside.history + n ≤ vec_capacity self.old.inside.history → IsOk result }
-        ensures history { self.new.history ≡ self.old.history }
-        ensures state { (first : State) → Stands first (D.told self.old.origin) (D.told self.old.disk) self.old.inside → Stands first (D.told self.new.origin) (D.told self.new.disk) self.new.inside }
-        ensures rest { (self.new.disk ≡ self.old.disk) × (self.new.origin ≡ self.old.origin) × (self.new.tapes ≡ self.old.tapes) }
+        ensures room { OnOk result (HasRoomFor n self.new) }
+        ensures spare { HasRoomFor n self.old → IsOk result }
+        ensures history { history_of self.new ≡ history_of self.old }
+        ensures state { (first : State) → Keeps D.told first self.old → Keeps D.told first self.new }
+        ensures rest { (self.new.disk ≡ self.old.disk) × (self.new.origin ≡ self.old.origin) × (tapes_in self.new ≡ tapes_in self.old) }
     {
         self.inside.reserve(n)
     }
 
     /// The calls so far, in order.
     pub fn history(&self) -> &[Entry]
-        ensures { result.now ≡ self.now.history }
+        ensures { result.now ≡ history_of self.now }
     {
         &self.inside.history
     }
@@ -133,7 +136,7 @@ impl<D: Disk> Store<D> {
 
     /// How many blocks nothing uses: no live rope, and no change in doubt.
     pub fn free(&self) -> u32
-        ensures { (first : State) → Stands first (D.told self.now.origin) (D.told self.now.disk) self.now.inside → result ≡ free (last_state first self.now.tapes self.now.history) }
+        ensures { (first : State) → Keeps D.told first self.now → result ≡ free (state_of first self.now) }
     {
         self.inside.parts.blocks.free()
     }
@@ -141,7 +144,7 @@ impl<D: Disk> Store<D> {
     /// The shape of the disk.
     pub fn shape(&self) -> Shape
         ensures value { result ≡ self.now.inside.journal.shape }
-        ensures state { (first : State) → Stands first (D.told self.now.origin) (D.told self.now.disk) self.now.inside → (last_state first self.now.tapes self.now.history).kept.shape ≡ result }
+        ensures state { (first : State) → Keeps D.told first self.now → (state_of first self.now).kept.shape ≡ result }
     {
         self.inside.journal.shape()
     }
@@ -149,7 +152,7 @@ impl<D: Disk> Store<D> {
     /// The tables of ropes, interests and blocks. Where nothing is in doubt they show what outlives a crash of the state.
     pub fn parts(&self) -> &Parts
         ensures same { result.now ≡ self.now.inside.parts }
-        ensures shows { (first : State) → Stands first (D.told self.now.origin) (D.told self.now.disk) self.now.inside → (last_state first self.now.tapes self.now.history).doubt ≡ None → ShowsState result.now (last_state first self.now.tapes self.now.history) }
+        ensures shows { (first : State) → Keeps D.told first self.now → (state_of first self.now).doubt ≡ None → ShowsState result.now (state_of first self.now) }
     {
         &self.inside.parts
     }
@@ -157,9 +160,7 @@ impl<D: Disk> Store<D> {
     /// Hands the disk and the history back.
     pub fn close(self) -> (D, Vec<Entry>)
         ensures disk { result.0 ≡ self.disk }
-        ensures history { result.1.items ≡ self.history }
-        // What contracts see of a store is what it keeps.
-        ensures inside { (self.inside.history.items ≡ self.history) × (arc_value self.inside.tapes ≡ self.tapes) }
+        ensures history { result.1.items ≡ history_of self }
     {
         let Store {
             disk,

@@ -1,6 +1,8 @@
-use Rattle.std.proofs.Common.{◌+◌, sym, ◌∙◌, subst}
-use Rattle.voice_store.specs.Shown.{Stands}
+use Rattle.std.proofs.Common.{◌≡◌, ◌+◌, None, sym, ◌∙◌, subst}
+use Rattle.std.specs.Prelude.{OnErr}
+use Rattle.voice_store.specs.Shown.{Stands, history_of, state_of}
 use Rattle.voice_store.specs.Facts.{Goes, most_calls}
+use Rattle.voice_store.proofs.Spare.{nothing_waits}
 use Rattle.voice_store.proofs.Faults.{covers_answer}
 use Rattle.voice_store.proofs.store.Store.apply.Goals as goal
 
@@ -43,3 +45,12 @@ returns-clause-goes g c =
     let now = c.args.self.now in
     subst (λ v. Goes (most_calls now.inside.journal.shape.block c.args.call) (g.D.Disk.told v.disk) (g.D.Disk.told c.apply.new.disk)) c.self.view_is
     (c.apply.ensures.goes now.inside.journal.shape.block)
+
+pub returns-clause-still : goal.returns-clause-still
+returns-clause-still g c = λ first stands sure.
+    let was = subst (λ v. Stands first (g.D.Disk.told v.origin) (g.D.Disk.told v.disk) v.inside) (sym c.self.view_is) stands in
+    let origin = g.D.Disk.told c.self.inside.origin.value in
+    let disk = g.D.Disk.told c.self.inside.disk in
+    let none = subst (λ v. (state_of first v).doubt ≡ None) (sym c.self.view_is) sure in
+    subst (λ v. OnErr c.apply.result ((c.apply.new.disk ≡ v.disk) × (c.apply.new.self.history.items ≡ history_of v))) c.self.view_is
+    (c.apply.ensures.still (nothing_waits first (origin.calls + 1) disk c.self.inside.inside was.stood none))

@@ -1,7 +1,6 @@
 use Rattle.std.proofs.Common.{◌≡◌, ◌+◌, sym, ◌∙◌, subst}
 use Rattle.voice_model.specs.Room.{free}
-use Rattle.voice_store.specs.Shown.{Stands}
-use Rattle.voice_store.specs.Stood.{last_state}
+use Rattle.voice_store.specs.Shown.{Stands, state_of}
 use Rattle.voice_store.proofs.Spare.{free_is_open}
 use Rattle.voice_store.proofs.store.Store.free.Goals as goal
 
@@ -10,5 +9,5 @@ returns g c = λ first stands.
     let was = subst (λ v. Stands first (g.D.Disk.told v.origin) (g.D.Disk.told v.disk) v.inside) (sym c.self.view_is) stands in
     let origin = g.D.Disk.told c.self.inside.origin.value in
     let disk = g.D.Disk.told c.self.inside.disk in
-    subst (λ v. c.free.result ≡ free (last_state first v.tapes v.history)) c.self.view_is
+    subst (λ v. c.free.result ≡ free (state_of first v)) c.self.view_is
     (c.free.ensures ∙ sym (free_is_open first (origin.calls + 1) disk c.self.inside.inside was.stood))

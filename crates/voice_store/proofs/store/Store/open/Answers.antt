@@ -13,3 +13,6 @@ pub returns-in-Ok-clause-state : goal.returns-in-Ok-clause-state
 returns-in-Ok-clause-state g c =
     let state = c.in-Ok.ensures.state in
     (state.0, stands_by_copy (λ d. g.D.Disk.told d) c.of-origin.result.value c.args.disk c.of-origin.ensures state.0 (g.D.Disk.told c.open.new.disk) c.in-Ok.inside c.in-Ok.ensures.fields.1 c.in-Ok.ensures.goes state.1, state.2)
+
+pub returns-in-Ok-clause-since : goal.returns-in-Ok-clause-since
+returns-in-Ok-clause-since g c = λ honest. (c.in-Ok.ensures.looks honest, c.in-Ok.ensures.since honest)
