@@ -4,8 +4,9 @@
 --     IsUnchanged old new      an honest disk was only looked at, or not touched
 use Rattle.std.specs.Prelude.{ℕ, List, Option, ◌≡◌, ◌⊎◌, IsTrue}
 use Rattle.voice_outside.specs.Counters.{HasRisen}
-use Rattle.voice_outside.specs.Disk.{Told, Now, Leaves}
+use Rattle.voice_outside.specs.Disk.{Told}
 use Rattle.voice_outside.specs.Files.{Files}
+use Rattle.voice_store.specs.Facts.{OnlyLooked}
 
 -- the shelf's files and faults, the sink's contents, faults and empty takes, and what the disk tells
 pub record Outside : Type 1 where
@@ -28,12 +29,6 @@ SinkFaulted old new = HasRisen old.sink_faults new.sink_faults ⊎ HasRisen old.
 
 abbrev pub DiskFaulted : Outside → Outside → Type 0
 DiskFaulted old new = HasRisen old.disk.faults new.disk.faults
-
--- no byte of a disk is changed, and a crash leaves nothing new
-pub record OnlyLooked (old new : Told) : Type 0 where
-  pub bytes : new.bytes ≡ old.bytes
-  pub now : Now new (λ image. old.may_leave old.calls image)
-  pub crash : Leaves old new (λ image. old.may_leave old.calls image)
 
 -- an honest disk was only looked at, or not touched
 abbrev pub IsUnchanged : Told → Told → Type 0

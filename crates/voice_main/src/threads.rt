@@ -4,6 +4,7 @@ ghost use Rattle.std.specs.Prelude.{ℕ, [], ◌≡◌, true, IfOk, IfErr, lengt
 ghost use Rattle.std.specs.Arc.{arc_value};
 ghost use Rattle.script_lang.specs.Verbs.{is_built_verb};
 ghost use Rattle.script_lang.specs.Whole.{IsWhole};
+ghost use Rattle.voice_store.specs.Shown.{history_of, tapes_in};
 ghost use Rattle.voice_server.specs.Kept.{GoesOn, IsKept};
 ghost use Rattle.voice_main.specs.Outside.{IsUnchanged};
 ghost use Rattle.voice_main.specs.Ran.{Performed, Begun, Made};
@@ -24,7 +25,7 @@ use voice_store::Store;
 // What a store leaves.
 fn closed<D: Disk>(store: Store<D>, is_finished: bool) -> Called<D>
     ensures disk { result.disk ≡ store.disk }
-    ensures history { result.history.items ≡ store.history }
+    ensures history { result.history.items ≡ history_of store }
     ensures finished { result.is_finished ≡ is_finished }
 {
     let (disk, history) = store.close();
@@ -45,8 +46,8 @@ fn share<R: Threads + Wait + Sync, D: Disk, G: Gate>(
     gate: &G,
 ) -> Called<D>
     requires kept { IsKept D.told store }
-    requires fresh { store.history ≡ [] }
-    requires tapes { store.tapes ≡ tapes.now }
+    requires fresh { history_of store ≡ [] }
+    requires tapes { tapes_in store ≡ tapes.now }
     requires whole { IsWhole is_built_verb script.now }
     requires there { length tapes.now ≡ length script.now.samples }
     ensures so_far { (k : ℕ) × Performed tapes.now (Begun true tapes.now script.now k result.history.items) (D.told store.origin) (D.told result.disk) result.history.items }
