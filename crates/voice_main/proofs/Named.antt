@@ -32,6 +32,7 @@ two_of true verb bytes name is = absurd (by is.form)
   where
     short : (a b : List ℕ) → verb ∷ bytes ∷ [] ≡ codes "run" ∷ a ∷ b ∷ [] → ⊥
     short a b h = cc
+
     by : (verb ∷ bytes ∷ [] ≡ codes "run" ∷ name ∷ codes "--threads" ∷ []) ⊎ (verb ∷ bytes ∷ [] ≡ codes "run" ∷ codes "--threads" ∷ name ∷ []) → ⊥
     by (inl h) = short name (codes "--threads") h
     by (inr h) = short (codes "--threads") name h

@@ -291,5 +291,14 @@ pub fn run<R: Threads + Wait + Sync, K: Shelf, O: Sink, D: Disk, G: Gate>(
             history: Vec::new(alloc),
         };
     };
-    run_script(rt, alloc, asked.threads, &asked.name, shelf, out, disk, gate)
+    run_script(
+        rt,
+        alloc,
+        asked.threads,
+        &asked.name,
+        shelf,
+        out,
+        disk,
+        gate,
+    )
 }
