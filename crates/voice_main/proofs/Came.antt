@@ -17,8 +17,10 @@ use Rattle.voice_main.specs.declared.status.Status.{Status}
 use Rattle.voice_main.specs.declared.status.Status.TheVariants.{Done, Usage, BadShape, BadScript, NoFile, ShelfFault, SinkFault, BadDisk, DiskFault, NoMemory}
 use Rattle.voice_main.specs.Ordered.{InOrder, asked_entries, unset}
 use Rattle.voice_model.specs.Step.{Legal}
-use Rattle.voice_main.specs.Ran.{IsReadyBy, IsThere, OnDisk, Begun, Made, Performed, Ran, RanWhole, SoFar}
-use Rattle.voice_main.specs.Statuses.{Performs, Prints, Opens, RunComes, IsSilent}
+use Rattle.voice_main.specs.Ran.{IsReady, IsThere, OnDisk, Begun, Made, Performed, RanSoFar, RanWhole}
+use Rattle.voice_main.specs.Statuses.{Performs, Prints, Opens, IsSilent}
+use Rattle.voice_main.specs.Outside.{Outside, outside, SinkFaulted, IsUnchanged}
+use Rattle.voice_main.specs.RunPromise.{RunComes, RunSoFar}
 use Rattle.voice_main.proofs.Followed.{each_follows}
 
 -- the history of a store that stands
@@ -87,40 +89,38 @@ stopped_opening sink old new ShelfFault h = h
 stopped_opening sink old new (BadDisk place) h = h
 stopped_opening sink old new DiskFault h = h
 
-there_of : (threads : Bool) (words : List (List ℕ)) (told : Option Files) (script : Reading) (tapes : List (List ℕ)) → IfSome told (λ files. IsReadyBy threads words files script tapes) → IfSome told (IsThere words)
-there_of threads words None script tapes ready = tt
-there_of threads words (Some files) script tapes ready = record { script = script; tapes = tapes; ready = ready.ready }
+there_of : (told : Option Files) (name : List ℕ) (script : Reading) (tapes : List (List ℕ)) → IfSome told (λ files. IsReady files name script tapes) → IfSome told (λ files. IsThere files name)
+there_of None name script tapes ready = tt
+there_of (Some files) name script tapes ready = record { script = script; tapes = tapes; ready = ready }
 
-whole_of : (threads : Bool) (words : List (List ℕ)) (told : Option Files) (script : Reading) (tapes : List (List ℕ)) (old new : Told) (history : List Entry) → IfSome told (λ files. IsReadyBy threads words files script tapes)
-    → Performed tapes (Made threads tapes script history) old new history → IfSome told (λ files. RanWhole words files old new history)
-whole_of threads words None script tapes old new history ready performed = tt
-whole_of threads words (Some files) script tapes old new history ready performed =
-    record { script = script; tapes = tapes; ready = ready.ready; performed = subst (λ b. Performed tapes (Made b tapes script history) old new history) (sym ready.by) performed }
+whole_of : (threads : Bool) (told : Option Files) (name : List ℕ) (script : Reading) (tapes : List (List ℕ)) (old new : Told) (history : List Entry) → IfSome told (λ files. IsReady files name script tapes)
+    → Performed tapes (Made threads tapes script history) old new history → IfSome told (λ files. RanWhole threads files name old new history)
+whole_of threads None name script tapes old new history ready performed = tt
+whole_of threads (Some files) name script tapes old new history ready performed = record { script = script; tapes = tapes; ready = ready; performed = performed }
 
-pub comes_ready : (threads : Bool) (words : List (List ℕ)) (told : Option Files) (shelf sink : Type 0) (script : Reading) (tapes : List (List ℕ)) (old new : Told) (history : List Entry) (status : Status) →
-    IfSome told (λ files. IsReadyBy threads words files script tapes) → Performs sink old new status → (status ≡ Done → Performed tapes (Made threads tapes script history) old new history) → (status ≡ SinkFault → Performed tapes (Made threads tapes script history) old new history) →
-    RunComes words told shelf sink old new history status
-comes_ready threads words told shelf sink script tapes old new history Done ready which done fault = whole_of threads words told script tapes old new history ready (done refl)
-comes_ready threads words told shelf sink script tapes old new history SinkFault ready which done fault = (which, whole_of threads words told script tapes old new history ready (fault refl))
-comes_ready threads words told shelf sink script tapes old new history NoMemory ready which done fault = tt
-comes_ready threads words told shelf sink script tapes old new history Usage ready which done fault = absurd which
-comes_ready threads words told shelf sink script tapes old new history BadShape ready which done fault = which
-comes_ready threads words told shelf sink script tapes old new history (BadScript n) ready which done fault = absurd which
-comes_ready threads words told shelf sink script tapes old new history (NoFile name) ready which done fault = absurd which
-comes_ready threads words told shelf sink script tapes old new history ShelfFault ready which done fault = absurd which
-comes_ready threads words told shelf sink script tapes old new history (BadDisk place) ready which done fault = (which, there_of threads words told script tapes ready)
-comes_ready threads words told shelf sink script tapes old new history DiskFault ready which done fault = (which, there_of threads words told script tapes ready)
+pub comes_ready : (threads : Bool) (name : List ℕ) (told : Option Files) (a : ℕ) (b : Option (List ℕ)) (c d : ℕ) (disk : Told) (new : Outside) (script : Reading) (tapes : List (List ℕ)) (history : List Entry) (status : Status) → IfSome told (λ files. IsReady files name script tapes)
+    → Performs (SinkFaulted (outside told a b c d disk) new) disk new.disk status → (status ≡ Done → Performed tapes (Made threads tapes script history) disk new.disk history) → (status ≡ SinkFault → Performed tapes (Made threads tapes script history) disk new.disk history)
+    → RunComes threads name (outside told a b c d disk) new history status
+comes_ready threads name told a b c d disk new script tapes history Done ready which done fault = whole_of threads told name script tapes disk new.disk history ready (done refl)
+comes_ready threads name told a b c d disk new script tapes history SinkFault ready which done fault = (which, whole_of threads told name script tapes disk new.disk history ready (fault refl))
+comes_ready threads name told a b c d disk new script tapes history NoMemory ready which done fault = tt
+comes_ready threads name told a b c d disk new script tapes history Usage ready which done fault = absurd which
+comes_ready threads name told a b c d disk new script tapes history BadShape ready which done fault = absurd which
+comes_ready threads name told a b c d disk new script tapes history (BadScript n) ready which done fault = absurd which
+comes_ready threads name told a b c d disk new script tapes history (NoFile missing) ready which done fault = absurd which
+comes_ready threads name told a b c d disk new script tapes history ShelfFault ready which done fault = absurd which
+comes_ready threads name told a b c d disk new script tapes history (BadDisk place) ready which done fault = (which, there_of told name script tapes ready)
+comes_ready threads name told a b c d disk new script tapes history DiskFault ready which done fault = (which, there_of told name script tapes ready)
 
-so_far_from : (threads : Bool) (words : List (List ℕ)) (told : Option Files) (script : Reading) (tapes : List (List ℕ)) (old new : Told) (history : List Entry) → IfSome told (λ files. IsReadyBy threads words files script tapes)
-    → (k : ℕ) × Performed tapes (Begun threads tapes script k history) old new history → IfSome told (λ files. (k : ℕ) × Ran words files k old new history)
-so_far_from threads words None script tapes old new history ready performed = tt
-so_far_from threads words (Some files) script tapes old new history ready performed =
-    (performed.0, record { script = script; tapes = tapes; ready = ready.ready; performed = subst (λ b. Performed tapes (Begun b tapes script performed.0 history) old new history) (sym ready.by) performed.1 })
+so_far_from : (threads : Bool) (told : Option Files) (name : List ℕ) (script : Reading) (tapes : List (List ℕ)) (old new : Told) (history : List Entry) → IfSome told (λ files. IsReady files name script tapes)
+    → (k : ℕ) × Performed tapes (Begun threads tapes script k history) old new history → IfSome told (λ files. RanSoFar threads files name old new history)
+so_far_from threads None name script tapes old new history ready performed = tt
+so_far_from threads (Some files) name script tapes old new history ready performed = (performed.0, record { script = script; tapes = tapes; ready = ready; performed = performed.1 })
 
-pub so_far_ready : (threads : Bool) (words : List (List ℕ)) (told : Option Files) (script : Reading) (tapes : List (List ℕ)) (old new : Told) (history : List Entry) → IfSome told (λ files. IsReadyBy threads words files script tapes)
-    → (history ≡ []) ⊎ ((k : ℕ) × Performed tapes (Begun threads tapes script k history) old new history) → SoFar words told old new history
-so_far_ready threads words told script tapes old new history ready (inl none) = inl none
-so_far_ready threads words told script tapes old new history ready (inr performed) = inr (so_far_from threads words told script tapes old new history ready performed)
+pub so_far_ready : (threads : Bool) (name : List ℕ) (told : Option Files) (a : ℕ) (b : Option (List ℕ)) (c d : ℕ) (disk : Told) (new : Outside) (script : Reading) (tapes : List (List ℕ)) (history : List Entry) → IfSome told (λ files. IsReady files name script tapes)
+    → ((history ≡ []) × IsUnchanged disk new.disk) ⊎ ((k : ℕ) × Performed tapes (Begun threads tapes script k history) disk new.disk history) → RunSoFar threads name (outside told a b c d disk) new history
+so_far_ready threads name told a b c d disk new script tapes history ready (inl none) = inl (record { silent = none.0; disk = none.1 })
+so_far_ready threads name told a b c d disk new script tapes history ready (inr performed) = inr (so_far_from threads told name script tapes disk new.disk history ready performed)
 
 -- ---- the calls of a script
 

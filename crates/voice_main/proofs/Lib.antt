@@ -13,3 +13,4 @@ pub mod Pairing
 pub mod Walked
 pub mod Taken
 pub mod Shares
+pub mod Said

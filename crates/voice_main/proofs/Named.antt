@@ -3,7 +3,7 @@ use Rattle.std.proofs.Common.{◌≡◌, ℕ, ◌<◌, ◌≤◌, ◌⊎◌, inl
 use Rattle.std.specs.Prelude.{codes, IsTrue}
 use Rattle.std.proofs.lemmas.Bool.{false≢true}
 use Rattle.script_lang.specs.Forms.{is_file}
-use Rattle.voice_main.specs.Words.{HasForm, IsRunBy, IsNoRun}
+use Rattle.voice_main.specs.Words.{Says, run_command, IsNoRun}
 
 pub two_items : {X : Type 0} (f : X → List ℕ) (xs : List X) (v n : X) → 2 ≤ length xs → length xs < 3 → v ≡ get_or xs 0 v → n ≡ get_or xs 1 n → map f xs ≡ f v ∷ f n ∷ []
 two_items f [] v n low high first second = absurd (omega arith)
@@ -21,85 +21,81 @@ three_items f (a ∷ b ∷ c ∷ d ∷ xs) v n m low high first second third = a
 no_file : (bytes name : List ℕ) → is_file bytes ≡ false → IsTrue (is_file name) → bytes ≡ name → ⊥
 no_file bytes name none some same = false≢true (sym none ∙ ap is_file same ∙ some)
 
+file_of : (threads : Bool) (words : List (List ℕ)) (name : List ℕ) → Says words (run_command threads name) → IsTrue (is_file name)
+file_of false words name h = h.file
+file_of true words name h = h.file
+
 -- two words are the serial form alone
-two_of : (threads : Bool) (verb bytes name : List ℕ) → HasForm threads (verb ∷ bytes ∷ []) name → (verb ≡ codes "run") × (bytes ≡ name)
-two_of false verb bytes name e = ((let h : verb ∷ bytes ∷ [] ≡ codes "run" ∷ name ∷ [] = e in cc), (let h : verb ∷ bytes ∷ [] ≡ codes "run" ∷ name ∷ [] = e in cc))
-two_of true verb bytes name (inl e) = let h : verb ∷ bytes ∷ [] ≡ codes "run" ∷ name ∷ codes "--threads" ∷ [] = e in absurd (by h)
+two_of : (threads : Bool) (verb bytes name : List ℕ) → Says (verb ∷ bytes ∷ []) (run_command threads name) → (verb ≡ codes "run") × (bytes ≡ name)
+two_of false verb bytes name is = let h : verb ∷ bytes ∷ [] ≡ codes "run" ∷ name ∷ [] = is.form in let a : verb ≡ codes "run" = cc in let b : bytes ≡ name = cc in (a, b)
+two_of true verb bytes name is = absurd (by is.form)
   where
-    by : verb ∷ bytes ∷ [] ≡ codes "run" ∷ name ∷ codes "--threads" ∷ [] → ⊥
-    by h = cc
-two_of true verb bytes name (inr e) = let h : verb ∷ bytes ∷ [] ≡ codes "run" ∷ codes "--threads" ∷ name ∷ [] = e in absurd (by h)
-  where
-    by : verb ∷ bytes ∷ [] ≡ codes "run" ∷ codes "--threads" ∷ name ∷ [] → ⊥
-    by h = cc
+    short : (a b : List ℕ) → verb ∷ bytes ∷ [] ≡ codes "run" ∷ a ∷ b ∷ [] → ⊥
+    short a b h = cc
+
+    by : (verb ∷ bytes ∷ [] ≡ codes "run" ∷ name ∷ codes "--threads" ∷ []) ⊎ (verb ∷ bytes ∷ [] ≡ codes "run" ∷ codes "--threads" ∷ name ∷ []) → ⊥
+    by (inl h) = short name (codes "--threads") h
+    by (inr h) = short (codes "--threads") name h
 
 -- three words are the threaded form alone
-three_of : (threads : Bool) (verb first second name : List ℕ) → HasForm threads (verb ∷ first ∷ second ∷ []) name → (verb ≡ codes "run") × (((first ≡ name) × (second ≡ codes "--threads")) ⊎ ((first ≡ codes "--threads") × (second ≡ name)))
-three_of false verb first second name e = absurd (by e)
+three_of : (threads : Bool) (verb first second name : List ℕ) → Says (verb ∷ first ∷ second ∷ []) (run_command threads name) → (verb ≡ codes "run") × (((first ≡ name) × (second ≡ codes "--threads")) ⊎ ((first ≡ codes "--threads") × (second ≡ name)))
+three_of false verb first second name is = absurd (by is.form)
   where
     by : verb ∷ first ∷ second ∷ [] ≡ codes "run" ∷ name ∷ [] → ⊥
     by h = cc
-three_of true verb first second name (inl e) =
-    let h : verb ∷ first ∷ second ∷ [] ≡ codes "run" ∷ name ∷ codes "--threads" ∷ [] = e in
-    let a : verb ≡ codes "run" = cc in let b : first ≡ name = cc in let c : second ≡ codes "--threads" = cc in (a, inl (b, c))
-three_of true verb first second name (inr e) =
-    let h : verb ∷ first ∷ second ∷ [] ≡ codes "run" ∷ codes "--threads" ∷ name ∷ [] = e in
-    let a : verb ≡ codes "run" = cc in let b : first ≡ codes "--threads" = cc in let c : second ≡ name = cc in (a, inr (b, c))
+three_of true verb first second name is = by is.form
+  where
+    by : (verb ∷ first ∷ second ∷ [] ≡ codes "run" ∷ name ∷ codes "--threads" ∷ []) ⊎ (verb ∷ first ∷ second ∷ [] ≡ codes "run" ∷ codes "--threads" ∷ name ∷ []) → (verb ≡ codes "run") × (((first ≡ name) × (second ≡ codes "--threads")) ⊎ ((first ≡ codes "--threads") × (second ≡ name)))
+    by (inl h) = let a : verb ≡ codes "run" = cc in let b : first ≡ name = cc in let c : second ≡ codes "--threads" = cc in (a, inl (b, c))
+    by (inr h) = let a : verb ≡ codes "run" = cc in let b : first ≡ codes "--threads" = cc in let c : second ≡ name = cc in (a, inr (b, c))
 
 pub no_two : (verb bytes : List ℕ) → ((verb ≡ codes "run" → ⊥) ⊎ (is_file bytes ≡ false)) → IsNoRun (verb ∷ bytes ∷ [])
-no_two verb bytes (inl other) name is = other (two_of is.threads verb bytes name is.form).0
-no_two verb bytes (inr none) name is = no_file bytes name none is.file (two_of is.threads verb bytes name is.form).1
+no_two verb bytes (inl other) threads name is = other (two_of threads verb bytes name is).0
+no_two verb bytes (inr none) threads name is = no_file bytes name none (file_of threads (verb ∷ bytes ∷ []) name is) (two_of threads verb bytes name is).1
 
-pub run_two : (verb bytes name : List ℕ) → verb ≡ codes "run" → is_file bytes ≡ true → name ≡ bytes → IsRunBy false (verb ∷ bytes ∷ []) name
-run_two verb bytes name run file same = record {
-  run = record { threads = false; form = ap (λ v. v ∷ bytes ∷ []) run ∙ ap (λ b. codes "run" ∷ b ∷ []) (sym same); file = ap is_file same ∙ file };
-  by = refl;
-}
+pub run_two : (verb bytes name : List ℕ) → verb ≡ codes "run" → is_file bytes ≡ true → name ≡ bytes → Says (verb ∷ bytes ∷ []) (run_command false name)
+run_two verb bytes name run file same = record { form = ap (λ v. v ∷ bytes ∷ []) run ∙ ap (λ b. codes "run" ∷ b ∷ []) (sym same); file = ap is_file same ∙ file }
 
 threads_no_file : is_file (codes "--threads") ≡ false
 threads_no_file = refl
 
 -- why three words run nothing
 pub no_three_verb : (verb first second : List ℕ) → (verb ≡ codes "run" → ⊥) → IsNoRun (verb ∷ first ∷ second ∷ [])
-no_three_verb verb first second other name is = other (three_of is.threads verb first second name is.form).0
+no_three_verb verb first second other threads name is = other (three_of threads verb first second name is).0
 
 pub no_three_second : (verb first second : List ℕ) → first ≡ codes "--threads" → is_file second ≡ false → IsNoRun (verb ∷ first ∷ second ∷ [])
-no_three_second verb first second flag none name is = by (three_of is.threads verb first second name is.form).1
+no_three_second verb first second flag none threads name is = by (three_of threads verb first second name is).1
   where
     by : ((first ≡ name) × (second ≡ codes "--threads")) ⊎ ((first ≡ codes "--threads") × (second ≡ name)) → ⊥
-    by (inl h) = no_file (codes "--threads") name threads_no_file is.file (sym flag ∙ h.0)
-    by (inr h) = no_file second name none is.file h.1
+    by (inl h) = no_file (codes "--threads") name threads_no_file (file_of threads (verb ∷ first ∷ second ∷ []) name is) (sym flag ∙ h.0)
+    by (inr h) = no_file second name none (file_of threads (verb ∷ first ∷ second ∷ []) name is) h.1
 
 pub no_three_flag : (verb first second : List ℕ) → (first ≡ codes "--threads" → ⊥) → (second ≡ codes "--threads" → ⊥) → IsNoRun (verb ∷ first ∷ second ∷ [])
-no_three_flag verb first second a b name is = by (three_of is.threads verb first second name is.form).1
+no_three_flag verb first second a b threads name is = by (three_of threads verb first second name is).1
   where
     by : ((first ≡ name) × (second ≡ codes "--threads")) ⊎ ((first ≡ codes "--threads") × (second ≡ name)) → ⊥
     by (inl h) = b h.1
     by (inr h) = a h.0
 
 pub no_three_first : (verb first second : List ℕ) → (first ≡ codes "--threads" → ⊥) → is_file first ≡ false → IsNoRun (verb ∷ first ∷ second ∷ [])
-no_three_first verb first second a none name is = by (three_of is.threads verb first second name is.form).1
+no_three_first verb first second a none threads name is = by (three_of threads verb first second name is).1
   where
     by : ((first ≡ name) × (second ≡ codes "--threads")) ⊎ ((first ≡ codes "--threads") × (second ≡ name)) → ⊥
-    by (inl h) = no_file first name none is.file h.0
+    by (inl h) = no_file first name none (file_of threads (verb ∷ first ∷ second ∷ []) name is) h.0
     by (inr h) = a h.0
 
-pub run_three_front : (verb first second name : List ℕ) → verb ≡ codes "run" → first ≡ codes "--threads" → is_file second ≡ true → name ≡ second → IsRunBy true (verb ∷ first ∷ second ∷ []) name
-run_three_front verb first second name run flag file same = record {
-  run = record { threads = true; form = inr (ap (λ v. v ∷ first ∷ second ∷ []) run ∙ ap (λ f. codes "run" ∷ f ∷ second ∷ []) flag ∙ ap (λ b. codes "run" ∷ codes "--threads" ∷ b ∷ []) (sym same)); file = ap is_file same ∙ file };
-  by = refl;
-}
+pub run_three_front : (verb first second name : List ℕ) → verb ≡ codes "run" → first ≡ codes "--threads" → is_file second ≡ true → name ≡ second → Says (verb ∷ first ∷ second ∷ []) (run_command true name)
+run_three_front verb first second name run flag file same =
+    record { form = inr (ap (λ v. v ∷ first ∷ second ∷ []) run ∙ ap (λ f. codes "run" ∷ f ∷ second ∷ []) flag ∙ ap (λ b. codes "run" ∷ codes "--threads" ∷ b ∷ []) (sym same)); file = ap is_file same ∙ file }
 
-pub run_three_back : (verb first second name : List ℕ) → verb ≡ codes "run" → second ≡ codes "--threads" → is_file first ≡ true → name ≡ first → IsRunBy true (verb ∷ first ∷ second ∷ []) name
-run_three_back verb first second name run flag file same = record {
-  run = record { threads = true; form = inl (ap (λ v. v ∷ first ∷ second ∷ []) run ∙ ap (λ f. codes "run" ∷ first ∷ f ∷ []) flag ∙ ap (λ b. codes "run" ∷ b ∷ codes "--threads" ∷ []) (sym same)); file = ap is_file same ∙ file };
-  by = refl;
-}
+pub run_three_back : (verb first second name : List ℕ) → verb ≡ codes "run" → second ≡ codes "--threads" → is_file first ≡ true → name ≡ first → Says (verb ∷ first ∷ second ∷ []) (run_command true name)
+run_three_back verb first second name run flag file same =
+    record { form = inl (ap (λ v. v ∷ first ∷ second ∷ []) run ∙ ap (λ f. codes "run" ∷ first ∷ f ∷ []) flag ∙ ap (λ b. codes "run" ∷ b ∷ codes "--threads" ∷ []) (sym same)); file = ap is_file same ∙ file }
 
 pub none_other : (words : List (List ℕ)) → (length words ≡ 2 → ⊥) → (length words ≡ 3 → ⊥) → IsNoRun words
-none_other words two three name is = by is.threads is.form
+none_other words two three false name is = two (ap length is.form)
+none_other words two three true name is = by is.form
   where
-    by : (threads : Bool) → HasForm threads words name → ⊥
-    by false e = two (ap length e)
-    by true (inl e) = three (ap length e)
-    by true (inr e) = three (ap length e)
+    by : (words ≡ codes "run" ∷ name ∷ codes "--threads" ∷ []) ⊎ (words ≡ codes "run" ∷ codes "--threads" ∷ name ∷ []) → ⊥
+    by (inl e) = three (ap length e)
+    by (inr e) = three (ap length e)

@@ -9,7 +9,7 @@ use Rattle.voice_model.specs.Image.{opened_from}
 use Rattle.voice_model.specs.declared.calls.Entry.{Entry}
 use Rattle.voice_model.specs.Follows.{Follows}
 use Rattle.voice_store.specs.Facts.{Goes}
-use Rattle.voice_store.specs.Shown.{Shown, Stands, IsSeen}
+use Rattle.voice_store.specs.Shown.{Shown, Keeps, history_of, tapes_in}
 use Rattle.script_lang.specs.declared.scripts.Line.{Line}
 use Rattle.script_lang.specs.Errands.{errand_of}
 use Rattle.script_lang.specs.Shown.{Reading}
@@ -31,14 +31,13 @@ use Rattle.voice_main.specs.Ran.{Shared, SharedWhole, Begun, Made, Performed}
 use Rattle.voice_main.proofs.Came.{performed_by, legal_of}
 
 -- a store just opened
-pub opened_kept : {D : Type 0} (told : D → Told) (disk : D) (s : Shown D) → s.origin ≡ disk → (first : State) × Stands first (told s.origin) (told s.disk) s.inside × (IsTrue (told disk).honest → opened_from (told disk).bytes ≡ Some first)
-    → Goes 5 (told disk) (told s.disk) → IsSeen s → IsKept told s
-opened_kept told disk s origin state goes seen = record {
+pub opened_kept : {D : Type 0} (told : D → Told) (disk : D) (s : Shown D) → s.origin ≡ disk → (first : State) × Keeps told first s × (IsTrue (told disk).honest → opened_from (told disk).bytes ≡ Some first)
+    → Goes 5 (told disk) (told s.disk) → IsKept told s
+opened_kept told disk s origin state goes = record {
   first = state.0;
-  stands = state.1;
+  keeps = state.1;
   opened = subst (λ d. IsTrue (told d).honest → opened_from (told d).bytes ≡ Some state.0) (sym origin) state.2;
   goes = subst (λ d. GoesOn (told d) (told s.disk)) (sym origin) (record { size = goes.size; honest = goes.honest; later = goes.later; faults = goes.faults });
-  seen = seen;
 }
 
 -- ---- each caller's entries
@@ -128,30 +127,30 @@ module _ {D : Type 0} where
 
 -- ---- the whole
 
-pub begun_shared : {D : Type 0} (told : D → Told) (s : Shown D) (entry out : D) (tapes : List (List ℕ)) (script : Reading) (memory : Bool) (history : List Entry) → (kept : IsKept told s) → s.origin ≡ entry → s.tapes ≡ tapes → out ≡ s.disk → history ≡ s.history → Every (IsOfPasses script.callers) s.history
-    → ((c : ℕ) → 1 ≤ c → Own tapes script.lines memory c (entries_of_caller c s.history)) → Performed tapes (Begun true tapes script 0 history) (told entry) (told out) history
+pub begun_shared : {D : Type 0} (told : D → Told) (s : Shown D) (entry out : D) (tapes : List (List ℕ)) (script : Reading) (memory : Bool) (history : List Entry) → (kept : IsKept told s) → s.origin ≡ entry → (tapes_in s) ≡ tapes → out ≡ s.disk → history ≡ (history_of s) → Every (IsOfPasses script.callers) (history_of s)
+    → ((c : ℕ) → 1 ≤ c → Own tapes script.lines memory c (entries_of_caller c (history_of s))) → Performed tapes (Begun true tapes script 0 history) (told entry) (told out) history
 begun_shared told s entry out tapes script memory history kept origin same_tapes same_disk same_history of own =
-    let legal = legal_of kept.first (told s.origin) (told s.disk) s.inside tapes s.history kept.stands kept.seen.history (kept.seen.tapes ∙ same_tapes) in
-    let made : Shared kept.first tapes script s.history = record { legal = legal; of = of; each = λ c least. (own c least).so_far } in
-    let there : Performed tapes (Begun true tapes script 0 s.history) (told s.origin) (told s.disk) s.history = performed_by kept.first (told s.origin) (told s.disk) s.inside tapes s.history (Begun true tapes script 0 s.history) kept.stands kept.opened kept.seen.history (kept.seen.tapes ∙ same_tapes) made in
+    let legal = legal_of kept.first (told s.origin) (told s.disk) s.inside tapes (history_of s) kept.keeps refl same_tapes in
+    let made : Shared kept.first tapes script (history_of s) = record { legal = legal; of = of; each = λ c least. (own c least).so_far } in
+    let there : Performed tapes (Begun true tapes script 0 (history_of s)) (told s.origin) (told s.disk) (history_of s) = performed_by kept.first (told s.origin) (told s.disk) s.inside tapes (history_of s) (Begun true tapes script 0 (history_of s)) kept.keeps kept.opened refl same_tapes made in
     subst (λ h. Performed tapes (Begun true tapes script 0 h) (told entry) (told out) h) (sym same_history)
-    (subst (λ d. Performed tapes (Begun true tapes script 0 s.history) (told entry) (told d) s.history) (sym same_disk) (subst (λ d. Performed tapes (Begun true tapes script 0 s.history) (told d) (told s.disk) s.history) origin there))
+    (subst (λ d. Performed tapes (Begun true tapes script 0 (history_of s)) (told entry) (told d) (history_of s)) (sym same_disk) (subst (λ d. Performed tapes (Begun true tapes script 0 (history_of s)) (told d) (told s.disk) (history_of s)) origin there))
 
-pub made_shared : {D : Type 0} (told : D → Told) (s : Shown D) (entry out : D) (tapes : List (List ℕ)) (script : Reading) (memory : Bool) (history : List Entry) → (kept : IsKept told s) → s.origin ≡ entry → s.tapes ≡ tapes → out ≡ s.disk → history ≡ s.history → Every (IsOfPasses script.callers) s.history
-    → ((c : ℕ) → 1 ≤ c → Own tapes script.lines memory c (entries_of_caller c s.history)) → memory ≡ true → Performed tapes (Made true tapes script history) (told entry) (told out) history
+pub made_shared : {D : Type 0} (told : D → Told) (s : Shown D) (entry out : D) (tapes : List (List ℕ)) (script : Reading) (memory : Bool) (history : List Entry) → (kept : IsKept told s) → s.origin ≡ entry → (tapes_in s) ≡ tapes → out ≡ s.disk → history ≡ (history_of s) → Every (IsOfPasses script.callers) (history_of s)
+    → ((c : ℕ) → 1 ≤ c → Own tapes script.lines memory c (entries_of_caller c (history_of s))) → memory ≡ true → Performed tapes (Made true tapes script history) (told entry) (told out) history
 made_shared told s entry out tapes script memory history kept origin same_tapes same_disk same_history of own done =
-    let legal = legal_of kept.first (told s.origin) (told s.disk) s.inside tapes s.history kept.stands kept.seen.history (kept.seen.tapes ∙ same_tapes) in
-    let each : EachFollows tapes script.lines s.history = λ c least. subst (λ ls. Follows [] (map (errand_of tapes) (lines_of_caller c ls)) (entries_of_caller c s.history)) (take_all (length script.lines) script.lines (omega arith)) ((own c least).whole done) in
-    let made : SharedWhole kept.first tapes script s.history = record { legal = legal; of = of; each = each } in
-    let there : Performed tapes (Made true tapes script s.history) (told s.origin) (told s.disk) s.history = performed_by kept.first (told s.origin) (told s.disk) s.inside tapes s.history (Made true tapes script s.history) kept.stands kept.opened kept.seen.history (kept.seen.tapes ∙ same_tapes) made in
+    let legal = legal_of kept.first (told s.origin) (told s.disk) s.inside tapes (history_of s) kept.keeps refl same_tapes in
+    let each : EachFollows tapes script.lines (history_of s) = λ c least. subst (λ ls. Follows [] (map (errand_of tapes) (lines_of_caller c ls)) (entries_of_caller c (history_of s))) (take_all (length script.lines) script.lines (omega arith)) ((own c least).whole done) in
+    let made : SharedWhole kept.first tapes script (history_of s) = record { legal = legal; of = of; each = each } in
+    let there : Performed tapes (Made true tapes script (history_of s)) (told s.origin) (told s.disk) (history_of s) = performed_by kept.first (told s.origin) (told s.disk) s.inside tapes (history_of s) (Made true tapes script (history_of s)) kept.keeps kept.opened refl same_tapes made in
     subst (λ h. Performed tapes (Made true tapes script h) (told entry) (told out) h) (sym same_history)
-    (subst (λ d. Performed tapes (Made true tapes script s.history) (told entry) (told d) s.history) (sym same_disk) (subst (λ d. Performed tapes (Made true tapes script s.history) (told d) (told s.disk) s.history) origin there))
+    (subst (λ d. Performed tapes (Made true tapes script (history_of s)) (told entry) (told d) (history_of s)) (sym same_disk) (subst (λ d. Performed tapes (Made true tapes script (history_of s)) (told d) (told s.disk) (history_of s)) origin there))
 
 no_true : false ≡ true → ⊥
 no_true e = cc
 
 -- where none began
-pub begun_fresh : {D : Type 0} (told : D → Told) (s : Shown D) (entry out : D) (tapes : List (List ℕ)) (script : Reading) (history : List Entry) → IsKept told s → s.origin ≡ entry → s.tapes ≡ tapes → out ≡ s.disk → history ≡ s.history → s.history ≡ []
+pub begun_fresh : {D : Type 0} (told : D → Told) (s : Shown D) (entry out : D) (tapes : List (List ℕ)) (script : Reading) (history : List Entry) → IsKept told s → s.origin ≡ entry → (tapes_in s) ≡ tapes → out ≡ s.disk → history ≡ (history_of s) → (history_of s) ≡ []
     → Performed tapes (Begun true tapes script 0 history) (told entry) (told out) history
 begun_fresh told s entry out tapes script history kept origin same_tapes same_disk same_history fresh =
     begun_shared told s entry out tapes script false history kept origin same_tapes same_disk same_history (subst (Every (IsOfPasses script.callers)) (sym fresh) tt)

@@ -1,8 +1,11 @@
 pub mod Options
 pub mod Words
+pub mod Outside
 pub mod Load
 pub mod Ordered
 pub mod Ran
-pub mod Formats
+pub mod RunPromise
+pub mod FormatPromise
+pub mod Promises
 pub mod Statuses
 pub mod Commands

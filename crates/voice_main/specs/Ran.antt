@@ -3,10 +3,9 @@
 --     Serial first tapes lines k history      the history of the first k lines: legal, in order, each caller's entries following its lines
 --     Shared first tapes script history      the history of callers on threads: legal, and each caller's entries following the first of its lines
 --     Performed tapes made old new history      a disk that was opened, and a history over it that was made so
---     IsReady words files script tapes      the words name a script that is there, and so are its sample files
---     Ran, RanWhole      the history of the first k lines of the script, or of all
---     SoFar      what stands of the history, whatever the status is
-use Rattle.std.specs.Prelude.{ℕ, List, [], ◌≡◌, ◌⊎◌, ◌≤◌, ◌+◌, Bool, true, false, map, Option, Some, IfSome, IsTrue, length, take}
+--     IsReady files name script tapes      the script of that name is there, and so are its sample files
+--     RanSoFar, RanWhole      the history of the first lines of the script, or of all
+use Rattle.std.specs.Prelude.{ℕ, List, [], ◌≡◌, ◌≤◌, ◌+◌, Bool, true, false, map, Some, IsTrue, length, take}
 use Rattle.std.specs.FinMap.{get}
 use Rattle.voice_outside.specs.Disk.{Told}
 use Rattle.voice_outside.specs.Files.{Files}
@@ -24,7 +23,6 @@ use Rattle.script_lang.specs.Errands.{errand_of}
 use Rattle.script_lang.specs.Shown.{Reading}
 use Rattle.script_lang.specs.Verbs.{is_built_verb}
 use Rattle.script_lang.specs.Grammar.{IsScript}
-use Rattle.voice_main.specs.Words.{IsRun}
 use Rattle.voice_main.specs.Load.{AreFiles}
 use Rattle.voice_main.specs.Ordered.{InOrder, EachFollows, asked_entries, unset, lines_of_caller, entries_of_caller}
 
@@ -73,40 +71,30 @@ pub record Performed (tapes : List (List ℕ)) (made : State → Type 0) (old ne
   pub made_so : made first
   pub disk : OnDisk first tapes old new history
 
--- the words name a script that is there, and so are its sample files
-pub record IsReady (words : List (List ℕ)) (files : Files) (script : Reading) (tapes : List (List ℕ)) : Type 0 where
-  pub name : List ℕ
+-- the script of that name is there, and so are its sample files
+pub record IsReady (files : Files) (name : List ℕ) (script : Reading) (tapes : List (List ℕ)) : Type 0 where
   pub bytes : List ℕ
-  pub run : IsRun words name
   pub found : get files name ≡ Some bytes
   pub spelled : IsScript is_built_verb bytes script
   pub samples : AreFiles files script.samples tapes
 
--- the same, on threads or not
-pub record IsReadyBy (threads : Bool) (words : List (List ℕ)) (files : Files) (script : Reading) (tapes : List (List ℕ)) : Type 0 where
-  pub ready : IsReady words files script tapes
-  pub by : ready.run.threads ≡ threads
-
 -- all that a run wants is there
-pub record IsThere (words : List (List ℕ)) (files : Files) : Type 0 where
+pub record IsThere (files : Files) (name : List ℕ) : Type 0 where
   pub script : Reading
   pub tapes : List (List ℕ)
-  pub ready : IsReady words files script tapes
+  pub ready : IsReady files name script tapes
 
--- a script over its sample files, and the history of its first k lines
-pub record Ran (words : List (List ℕ)) (files : Files) (k : ℕ) (old new : Told) (history : List Entry) : Type 0 where
+-- a script over its sample files, and a history that was made so
+pub record Ran (files : Files) (name : List ℕ) (made : List (List ℕ) → Reading → State → Type 0) (old new : Told) (history : List Entry) : Type 0 where
   pub script : Reading
   pub tapes : List (List ℕ)
-  pub ready : IsReady words files script tapes
-  pub performed : Performed tapes (Begun ready.run.threads tapes script k history) old new history
+  pub ready : IsReady files name script tapes
+  pub performed : Performed tapes (made tapes script) old new history
+
+-- the history of the first k lines
+abbrev pub RanSoFar : Bool → Files → List ℕ → Told → Told → List Entry → Type 0
+RanSoFar threads files name old new history = (k : ℕ) × Ran files name (λ tapes script first. Begun threads tapes script k history first) old new history
 
 -- the history of the whole script
-pub record RanWhole (words : List (List ℕ)) (files : Files) (old new : Told) (history : List Entry) : Type 0 where
-  pub script : Reading
-  pub tapes : List (List ℕ)
-  pub ready : IsReady words files script tapes
-  pub performed : Performed tapes (Made ready.run.threads tapes script history) old new history
-
--- whatever the status is, the history is empty, or that of the first lines
-abbrev pub SoFar : List (List ℕ) → Option Files → Told → Told → List Entry → Type 0
-SoFar words told old new history = (history ≡ []) ⊎ IfSome told (λ files. (k : ℕ) × Ran words files k old new history)
+abbrev pub RanWhole : Bool → Files → List ℕ → Told → Told → List Entry → Type 0
+RanWhole threads files name old new history = Ran files name (λ tapes script first. Made threads tapes script history first) old new history

@@ -3,7 +3,7 @@
 ghost use Rattle.std.specs.Prelude.{◌≡◌, ◌≤◌, IsTrue, IfOk, IfErr};
 ghost use Rattle.voice_outside.specs.Counters.{HasRisen};
 ghost use Rattle.voice_outside.specs.Disk.{Now};
-ghost use Rattle.voice_main.specs.Formats.{HasRoom, HasNumbers, Formats, FormatStatus};
+ghost use Rattle.voice_main.specs.FormatPromise.{HasRoom, HasNumbers, Formats, FormatStatus};
 ghost use Rattle.voice_server.specs.Kept.{GoesOn};
 
 use crate::options::FormatNumbers;

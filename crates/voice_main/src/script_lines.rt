@@ -3,7 +3,7 @@
 ghost use Rattle.std.specs.Prelude.{ℕ, List, [], ◌≡◌, ◌≤◌, ◌⊎◌, IsTrue, IfOk, OnOk, All, length, take};
 ghost use Rattle.voice_model.specs.State.{State};
 ghost use Rattle.voice_model.specs.Follows.{Binding};
-ghost use Rattle.voice_store.specs.Shown.{Stands};
+ghost use Rattle.voice_store.specs.Shown.{Keeps, history_of, tapes_in};
 ghost use Rattle.script_lang.specs.Verbs.{is_built_verb};
 ghost use Rattle.script_lang.specs.Grammar.{verb_name};
 ghost use Rattle.script_lang.specs.Errands.{HasTape, HasItsRopes, SameValues};
@@ -27,18 +27,18 @@ fn run_line<D: Disk, G: Gate>(
     variables: &mut Env,
     gate: &G,
 ) -> Result<(), NoMemory>
-    requires tapes { store.old.tapes ≡ tapes.now }
+    requires tapes { tapes_in store.old ≡ tapes.now }
     requires verb { IsTrue (is_built_verb (verb_name line.now.verb)) }
     requires tape { HasTape (length tapes.now) line.now.verb }
     requires ropes { HasItsRopes line.now.verb }
     requires least { 1 ≤ line.now.caller }
     requires most { line.now.caller ≤ 16 }
-    ensures stands { (first : State) → Stands first (D.told store.old.origin) (D.told store.old.disk) store.old.inside → Stands first (D.told store.new.origin) (D.told store.new.disk) store.new.inside }
-    ensures ran { (stand : List Binding) → SameValues variables.old stand → (asked_entries store.new.history ≡ asked_entries store.old.history) ⊎ LineRan tapes.now line.now stand store.old.history store.new.history }
-    ensures ok { (stand : List Binding) → SameValues variables.old stand → OnOk result (LineBound tapes.now line.now stand variables.new store.old.history store.new.history) }
+    ensures stands { (first : State) → Keeps D.told first store.old → Keeps D.told first store.new }
+    ensures ran { (stand : List Binding) → SameValues variables.old stand → (asked_entries (history_of store.new) ≡ asked_entries (history_of store.old)) ⊎ LineRan tapes.now line.now stand (history_of store.old) (history_of store.new) }
+    ensures ok { (stand : List Binding) → SameValues variables.old stand → OnOk result (LineBound tapes.now line.now stand variables.new (history_of store.old) (history_of store.new)) }
     ensures goes { GoesOn (D.told store.old.disk) (D.told store.new.disk) }
     ensures origin { store.new.origin ≡ store.old.origin }
-    ensures tapes_stay { store.new.tapes ≡ store.old.tapes }
+    ensures tapes_stay { tapes_in store.new ≡ tapes_in store.old }
 {
     let Some(call) = resolve(alloc, line, variables, tapes)? else {
         unreachable!()
@@ -69,16 +69,16 @@ pub fn run_lines<D: Disk, G: Gate>(
     script: &Script,
     gate: &G,
 ) -> Result<(), NoMemory>
-    requires tapes { store.old.tapes ≡ tapes.now }
-    requires history { store.old.history ≡ [] }
+    requires tapes { tapes_in store.old ≡ tapes.now }
+    requires history { history_of store.old ≡ [] }
     requires lines { IsWhole is_built_verb script.now }
     requires samples { length tapes.now ≡ length script.now.samples }
-    ensures stands { (first : State) → Stands first (D.told store.old.origin) (D.told store.old.disk) store.old.inside → Stands first (D.told store.new.origin) (D.told store.new.disk) store.new.inside }
-    ensures whole { OnOk result (InOrder tapes.now unset script.now.lines (asked_entries store.new.history)) }
-    ensures so_far { (k : ℕ) × InOrder tapes.now unset (take k script.now.lines) (asked_entries store.new.history) }
+    ensures stands { (first : State) → Keeps D.told first store.old → Keeps D.told first store.new }
+    ensures whole { OnOk result (InOrder tapes.now unset script.now.lines (asked_entries (history_of store.new))) }
+    ensures so_far { (k : ℕ) × InOrder tapes.now unset (take k script.now.lines) (asked_entries (history_of store.new)) }
     ensures goes { GoesOn (D.told store.old.disk) (D.told store.new.disk) }
     ensures origin { store.new.origin ≡ store.old.origin }
-    ensures tapes_stay { store.new.tapes ≡ store.old.tapes }
+    ensures tapes_stay { tapes_in store.new ≡ tapes_in store.old }
 {
     let mut variables = no_variables(alloc, script.callers)?;
     for line in &script.lines {

@@ -1,5 +1,8 @@
 //! How a run ended.
 
+ghost use Rattle.std.specs.Prelude.{◌≡◌};
+ghost use Rattle.voice_main.specs.Statuses.{code_of};
+
 use thiserror::Error;
 use voice_units::Name;
 
@@ -37,7 +40,9 @@ pub enum Status {
 
 impl Status {
     /// The exit status of the program.
-    pub fn code(&self) -> u8 {
+    pub fn code(&self) -> u8
+        ensures { result ≡ code_of self.now }
+    {
         match self {
             Status::Done => 0,
             Status::Usage | Status::BadShape => 2,

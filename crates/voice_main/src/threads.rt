@@ -4,7 +4,9 @@ ghost use Rattle.std.specs.Prelude.{ℕ, [], ◌≡◌, true, IfOk, IfErr, lengt
 ghost use Rattle.std.specs.Arc.{arc_value};
 ghost use Rattle.script_lang.specs.Verbs.{is_built_verb};
 ghost use Rattle.script_lang.specs.Whole.{IsWhole};
+ghost use Rattle.voice_store.specs.Shown.{history_of, tapes_in};
 ghost use Rattle.voice_server.specs.Kept.{GoesOn, IsKept};
+ghost use Rattle.voice_main.specs.Outside.{IsUnchanged};
 ghost use Rattle.voice_main.specs.Ran.{Performed, Begun, Made};
 ghost use Rattle.voice_main.specs.Statuses.{Opens};
 
@@ -23,7 +25,7 @@ use voice_store::Store;
 // What a store leaves.
 fn closed<D: Disk>(store: Store<D>, is_finished: bool) -> Called<D>
     ensures disk { result.disk ≡ store.disk }
-    ensures history { result.history.items ≡ store.history }
+    ensures history { result.history.items ≡ history_of store }
     ensures finished { result.is_finished ≡ is_finished }
 {
     let (disk, history) = store.close();
@@ -44,8 +46,8 @@ fn share<R: Threads + Wait + Sync, D: Disk, G: Gate>(
     gate: &G,
 ) -> Called<D>
     requires kept { IsKept D.told store }
-    requires fresh { store.history ≡ [] }
-    requires tapes { store.tapes ≡ tapes.now }
+    requires fresh { history_of store ≡ [] }
+    requires tapes { tapes_in store ≡ tapes.now }
     requires whole { IsWhole is_built_verb script.now }
     requires there { length tapes.now ≡ length script.now.samples }
     ensures so_far { (k : ℕ) × Performed tapes.now (Begun true tapes.now script.now k result.history.items) (D.told store.origin) (D.told result.disk) result.history.items }
@@ -73,6 +75,7 @@ pub(crate) fn call_on_threads<R: Threads + Wait + Sync, D: Disk, G: Gate>(
     ensures so_far { IfOk result (λ called. (k : ℕ) × Performed (arc_value scripted.now.tapes) (Begun true (arc_value scripted.now.tapes) scripted.now.script k called.history.items) (D.told disk) (D.told called.disk) called.history.items) }
     ensures finished { IfOk result (λ called. called.is_finished ≡ true → Performed (arc_value scripted.now.tapes) (Made true (arc_value scripted.now.tapes) scripted.now.script called.history.items) (D.told disk) (D.told called.disk) called.history.items) }
     ensures opens { IfErr result (λ e. Opens (D.told disk) (D.told e.1) e.0) }
+    ensures looks { IfErr result (λ e. IsUnchanged (D.told disk) (D.told e.1)) }
     ensures goes { IfOk result (λ called. GoesOn (D.told disk) (D.told called.disk)) }
     ensures goes_back { IfErr result (λ e. GoesOn (D.told disk) (D.told e.1)) }
 {

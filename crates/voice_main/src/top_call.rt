@@ -4,16 +4,15 @@ ghost use Rattle.std.specs.Prelude.{ℕ, List, [], Some, ◌≡◌, ◌≤◌, �
 ghost use Rattle.std.specs.Arc.{arc_value};
 ghost use Rattle.voice_model.specs.Text.{text_of};
 ghost use Rattle.voice_outside.specs.Counters.{HasRisen};
-ghost use Rattle.script_lang.specs.Shown.{Reading};
 ghost use Rattle.script_lang.specs.Verbs.{is_built_verb};
 ghost use Rattle.script_lang.specs.Whole.{IsWhole};
-ghost use Rattle.voice_main.specs.Words.{IsNoRun, IsFormat, IsRefused};
-ghost use Rattle.voice_outside.specs.Disk.{Now};
-ghost use Rattle.voice_main.specs.declared.options.FormatNumbers.{FormatNumbers as NumbersValue};
-ghost use Rattle.voice_main.specs.Formats.{Formats, FormatStatus};
 ghost use Rattle.voice_server.specs.Kept.{GoesOn};
-ghost use Rattle.voice_main.specs.Ran.{IsReadyBy, Performed, Begun, Made, SoFar};
-ghost use Rattle.voice_main.specs.Statuses.{Stops, Opens, Performs, RunComes, Comes, IsEarly, IsSilent, IsExact, IsComplete, load_status_of, open_status_of, script_status_of};
+ghost use Rattle.voice_main.specs.Words.{Command, Says, IsRefused};
+ghost use Rattle.voice_main.specs.Outside.{outside, IsUnchanged};
+ghost use Rattle.voice_main.specs.Ran.{IsReady, Performed, Begun, Made};
+ghost use Rattle.voice_main.specs.RunPromise.{RunPromise};
+ghost use Rattle.voice_main.specs.Promises.{Comes, Promises};
+ghost use Rattle.voice_main.specs.Statuses.{Stops, Opens, Performs, IsEarly, IsSilent, load_status_of, open_status_of, script_status_of};
 
 use crate::assigned::assigned;
 use crate::format::format;
@@ -31,6 +30,7 @@ use std::thread::Threads;
 use voice_model::{Entry, Tapes};
 use voice_outside::{Disk, Gate, Shelf, Sink};
 use voice_store::{OpenError, Store};
+use voice_units::Name;
 
 /// How a run ended, with the disk and the history.
 #[derive(Drop)]
@@ -40,12 +40,11 @@ pub struct Ended<D> {
     pub history: Vec<Entry>,
 }
 
-/// A script with its sample files, and whether each caller's lines go on a thread of its own.
+/// A script with its sample files.
 #[derive(Drop)]
 pub(crate) struct Scripted {
     pub(crate) script: Script,
     pub(crate) tapes: Arc<Tapes, Global>,
-    pub(crate) threads: bool,
 }
 
 fn load_status(e: LoadError) -> Status
@@ -77,19 +76,16 @@ pub(crate) fn open_status(e: OpenError) -> Status
     }
 }
 
-fn prepared<K: Shelf>(alloc: Global, words: &[String], shelf: &mut K) -> Result<Scripted, Status>
-    ensures ready { IfOk result (λ s. IfSome (K.files shelf.old) (λ files. IsReadyBy s.threads (map string_bytes words.now) files s.script (arc_value s.tapes))) }
+// The script of that name, with its sample files.
+fn prepared<K: Shelf>(alloc: Global, name: &Name, shelf: &mut K) -> Result<Scripted, Status>
+    ensures ready { IfOk result (λ s. IfSome (K.files shelf.old) (λ files. IsReady files name.now s.script (arc_value s.tapes))) }
     ensures whole { IfOk result (λ s. IsWhole is_built_verb s.script) }
     ensures there { IfOk result (λ s. length (arc_value s.tapes) ≡ length s.script.samples) }
-    ensures usage { IsNoRun (map string_bytes words.now) → result ≡ Err Status.Usage }
-    ensures stops { IfErr result (Stops (map string_bytes words.now) (K.files shelf.old) (HasRisen (K.faults shelf.old) (K.faults shelf.new))) }
+    ensures stops { IfErr result (Stops name.now (K.files shelf.old) (HasRisen (K.faults shelf.old) (K.faults shelf.new))) }
     ensures kept { K.files shelf.new ≡ K.files shelf.old }
     ensures later { K.faults shelf.old ≤ K.faults shelf.new }
 {
-    let Some(asked) = run_words(words) else {
-        return Err(Status::Usage);
-    };
-    let bytes = match file(shelf, &asked.name) {
+    let bytes = match file(shelf, name) {
         Ok(bytes) => bytes,
         Err(e) => return Err(load_status(e)),
     };
@@ -104,11 +100,7 @@ fn prepared<K: Shelf>(alloc: Global, words: &[String], shelf: &mut K) -> Result<
     let Ok(tapes) = Arc::new(alloc, Tapes::new(tapes)) else {
         return Err(Status::NoMemory);
     };
-    Ok(Scripted {
-        script,
-        tapes,
-        threads: asked.threads,
-    })
+    Ok(Scripted { script, tapes })
 }
 
 /// The disk and the history that the calls of a script left.
@@ -131,6 +123,7 @@ fn call_lines<D: Disk, G: Gate>(
     ensures so_far { IfOk result (λ called. (k : ℕ) × Performed (arc_value scripted.now.tapes) (Begun false (arc_value scripted.now.tapes) scripted.now.script k called.history.items) (D.told disk) (D.told called.disk) called.history.items) }
     ensures finished { IfOk result (λ called. called.is_finished ≡ true → Performed (arc_value scripted.now.tapes) (Made false (arc_value scripted.now.tapes) scripted.now.script called.history.items) (D.told disk) (D.told called.disk) called.history.items) }
     ensures opens { IfErr result (λ e. Opens (D.told disk) (D.told e.1) e.0) }
+    ensures looks { IfErr result (λ e. IsUnchanged (D.told disk) (D.told e.1)) }
     ensures goes { IfOk result (λ called. GoesOn (D.told disk) (D.told called.disk)) }
     ensures goes_back { IfErr result (λ e. GoesOn (D.told disk) (D.told e.1)) }
 {
@@ -154,19 +147,21 @@ fn call_lines<D: Disk, G: Gate>(
 fn call_all<R: Threads + Wait + Sync, D: Disk, G: Gate>(
     rt: &R,
     alloc: Global,
+    threads: bool,
     scripted: &Scripted,
     disk: D,
     gate: &G,
 ) -> Result<Called<D>, (Status, D)>
     requires whole { IsWhole is_built_verb scripted.now.script }
     requires there { length (arc_value scripted.now.tapes) ≡ length scripted.now.script.samples }
-    ensures so_far { IfOk result (λ called. (k : ℕ) × Performed (arc_value scripted.now.tapes) (Begun scripted.now.threads (arc_value scripted.now.tapes) scripted.now.script k called.history.items) (D.told disk) (D.told called.disk) called.history.items) }
-    ensures finished { IfOk result (λ called. called.is_finished ≡ true → Performed (arc_value scripted.now.tapes) (Made scripted.now.threads (arc_value scripted.now.tapes) scripted.now.script called.history.items) (D.told disk) (D.told called.disk) called.history.items) }
+    ensures so_far { IfOk result (λ called. (k : ℕ) × Performed (arc_value scripted.now.tapes) (Begun threads (arc_value scripted.now.tapes) scripted.now.script k called.history.items) (D.told disk) (D.told called.disk) called.history.items) }
+    ensures finished { IfOk result (λ called. called.is_finished ≡ true → Performed (arc_value scripted.now.tapes) (Made threads (arc_value scripted.now.tapes) scripted.now.script called.history.items) (D.told disk) (D.told called.disk) called.history.items) }
     ensures opens { IfErr result (λ e. Opens (D.told disk) (D.told e.1) e.0) }
+    ensures looks { IfErr result (λ e. IsUnchanged (D.told disk) (D.told e.1)) }
     ensures goes { IfOk result (λ called. GoesOn (D.told disk) (D.told called.disk)) }
     ensures goes_back { IfErr result (λ e. GoesOn (D.told disk) (D.told e.1)) }
 {
-    if scripted.threads {
+    if threads {
         return call_on_threads(rt, alloc, scripted, disk, gate);
     }
     call_lines(alloc, scripted, disk, gate)
@@ -176,6 +171,7 @@ fn call_all<R: Threads + Wait + Sync, D: Disk, G: Gate>(
 fn perform<R: Threads + Wait + Sync, O: Sink, D: Disk, G: Gate>(
     rt: &R,
     alloc: Global,
+    threads: bool,
     scripted: &Scripted,
     out: &mut O,
     disk: D,
@@ -183,16 +179,16 @@ fn perform<R: Threads + Wait + Sync, O: Sink, D: Disk, G: Gate>(
 ) -> Ended<D>
     requires whole { IsWhole is_built_verb scripted.now.script }
     requires there { length (arc_value scripted.now.tapes) ≡ length scripted.now.script.samples }
-    ensures so_far { (result.history.items ≡ []) ⊎ ((k : ℕ) × Performed (arc_value scripted.now.tapes) (Begun scripted.now.threads (arc_value scripted.now.tapes) scripted.now.script k result.history.items) (D.told disk) (D.told result.disk) result.history.items) }
-    ensures whole { result.status ≡ Status.Done → Performed (arc_value scripted.now.tapes) (Made scripted.now.threads (arc_value scripted.now.tapes) scripted.now.script result.history.items) (D.told disk) (D.told result.disk) result.history.items }
-    ensures sink_fault { result.status ≡ Status.SinkFault → Performed (arc_value scripted.now.tapes) (Made scripted.now.threads (arc_value scripted.now.tapes) scripted.now.script result.history.items) (D.told disk) (D.told result.disk) result.history.items }
+    ensures so_far { ((result.history.items ≡ []) × IsUnchanged (D.told disk) (D.told result.disk)) ⊎ ((k : ℕ) × Performed (arc_value scripted.now.tapes) (Begun threads (arc_value scripted.now.tapes) scripted.now.script k result.history.items) (D.told disk) (D.told result.disk) result.history.items) }
+    ensures whole { result.status ≡ Status.Done → Performed (arc_value scripted.now.tapes) (Made threads (arc_value scripted.now.tapes) scripted.now.script result.history.items) (D.told disk) (D.told result.disk) result.history.items }
+    ensures sink_fault { result.status ≡ Status.SinkFault → Performed (arc_value scripted.now.tapes) (Made threads (arc_value scripted.now.tapes) scripted.now.script result.history.items) (D.told disk) (D.told result.disk) result.history.items }
     ensures which { Performs (HasRisen (O.faults out.old) (O.faults out.new) ⊎ HasRisen (O.empty_takes out.old) (O.empty_takes out.new)) (D.told disk) (D.told result.disk) result.status }
     ensures done { result.status ≡ Status.Done → IfSome (O.contents out.old) (λ had. O.contents out.new ≡ Some (had ++ text_of result.history.items)) }
     ensures prefix { IfSome (O.contents out.old) (λ had. (n : ℕ) × (O.contents out.new ≡ Some (had ++ take n (text_of result.history.items)))) }
     ensures silent { IsSilent result.status → (result.history.items ≡ []) × (O.contents out.new ≡ O.contents out.old) }
     ensures goes { GoesOn (D.told disk) (D.told result.disk) }
 {
-    let called = match call_all(rt, alloc, scripted, disk, gate) {
+    let called = match call_all(rt, alloc, threads, scripted, disk, gate) {
         Ok(called) => called,
         Err((status, disk)) => return Ended {
             status,
@@ -215,91 +211,34 @@ fn perform<R: Threads + Wait + Sync, O: Sink, D: Disk, G: Gate>(
     }
 }
 
-// Runs the script that the words name.
+// Runs the script of that name.
 fn run_script<R: Threads + Wait + Sync, K: Shelf, O: Sink, D: Disk, G: Gate>(
     rt: &R,
     alloc: Global,
-    words: &[String],
+    threads: bool,
+    name: &Name,
     shelf: &mut K,
     out: &mut O,
     disk: D,
     gate: &G,
 ) -> Ended<D>
-    // Which words are refused.
-    ensures usage { IsNoRun (map string_bytes words.now) → result.status ≡ Status.Usage }
-    // When each status comes.
-    ensures comes { RunComes (map string_bytes words.now) (K.files shelf.old)
-        (HasRisen (K.faults shelf.old) (K.faults shelf.new))
-        (HasRisen (O.faults out.old) (O.faults out.new) ⊎ HasRisen (O.empty_takes out.old) (O.empty_takes out.new))
-        (D.told disk) (D.told result.disk) result.history.items result.status }
-    // A finished run prints the text of its history and nothing else.
-    ensures done { result.status ≡ Status.Done → IfSome (O.contents out.old) (λ had. O.contents out.new ≡ Some (had ++ text_of result.history.items)) }
-    // What stands after any status.
+    ensures promise { RunPromise threads name.now (outside (K.files shelf.old) (K.faults shelf.old) (O.contents out.old) (O.faults out.old) (O.empty_takes out.old) (D.told disk)) (outside (K.files shelf.new) (K.faults shelf.new) (O.contents out.new) (O.faults out.new) (O.empty_takes out.new) (D.told result.disk)) result.status result.history.items }
+    // What stands after any status: the front of the text that the sink took, and the files.
     ensures prefix { IfSome (O.contents out.old) (λ had. (n : ℕ) × (O.contents out.new ≡ Some (had ++ take n (text_of result.history.items)))) }
-    ensures so_far { SoFar (map string_bytes words.now) (K.files shelf.old) (D.told disk) (D.told result.disk) result.history.items }
     ensures files { K.files shelf.new ≡ K.files shelf.old }
     // A status that is decided before the first call leaves no history and prints nothing; one that is decided before the disk is touched leaves the disk.
     ensures silent { IsSilent result.status → (result.history.items ≡ []) × (O.contents out.new ≡ O.contents out.old) }
     ensures early { IsEarly result.status → result.disk ≡ disk }
+    // The disk keeps its size, and its counts never fall.
     ensures disk { GoesOn (D.told disk) (D.told result.disk) }
 {
-    match prepared(alloc, words, shelf) {
-        Ok(scripted) => perform(rt, alloc, &scripted, out, disk, gate),
+    match prepared(alloc, name, shelf) {
+        Ok(scripted) => perform(rt, alloc, threads, &scripted, out, disk, gate),
         Err(status) => Ended {
             status,
             disk,
             history: Vec::new(alloc),
         },
-    }
-}
-
-// Does what the words say.
-fn carry_out<R: Threads + Wait + Sync, K: Shelf, O: Sink, D: Disk, G: Gate>(
-    rt: &R,
-    alloc: Global,
-    words: &[String],
-    shelf: &mut K,
-    out: &mut O,
-    disk: D,
-    gate: &G,
-) -> Ended<D>
-    // Which words are refused.
-    ensures usage { IsRefused (map string_bytes words.now) → result.status ≡ Status.Usage }
-    // When each status comes.
-    ensures comes { Comes (map string_bytes words.now) (K.files shelf.old)
-        (HasRisen (K.faults shelf.old) (K.faults shelf.new))
-        (HasRisen (O.faults out.old) (O.faults out.new) ⊎ HasRisen (O.empty_takes out.old) (O.empty_takes out.new))
-        (D.told disk) (D.told result.disk) result.history.items result.status }
-    // A finished run prints the text of its history and nothing else.
-    ensures done { result.status ≡ Status.Done → IfSome (O.contents out.old) (λ had. O.contents out.new ≡ Some (had ++ text_of result.history.items)) }
-    // What stands after any status.
-    ensures prefix { IfSome (O.contents out.old) (λ had. (n : ℕ) × (O.contents out.new ≡ Some (had ++ take n (text_of result.history.items)))) }
-    ensures so_far { SoFar (map string_bytes words.now) (K.files shelf.old) (D.told disk) (D.told result.disk) result.history.items }
-    ensures files { K.files shelf.new ≡ K.files shelf.old }
-    // A status that is decided before the first call leaves no history and prints nothing; one that is decided before the disk is touched leaves the disk.
-    ensures silent { IsSilent result.status → (result.history.items ≡ []) × (O.contents out.new ≡ O.contents out.old) }
-    ensures early { IsEarly result.status → result.disk ≡ disk }
-    ensures disk { GoesOn (D.told disk) (D.told result.disk) }
-    // What a `format` answers and leaves.
-    ensures format { (numbers : NumbersValue) → IsFormat (map string_bytes words.now) numbers → FormatStatus numbers (D.told disk) (D.told result.disk) result.status }
-    ensures formatted { (numbers : NumbersValue) → IsFormat (map string_bytes words.now) numbers → result.status ≡ Status.Done → IsTrue (D.told disk).honest → Now (D.told result.disk) (Formats numbers (D.told disk).bytes) }
-{
-    // The grammar decides which words are accepted, and clap assigns their numbers.
-    let Some(_accepted) = format_numbers(words) else {
-        return run_script(rt, alloc, words, shelf, out, disk, gate);
-    };
-    let Some(numbers) = assigned(alloc, words) else {
-        return Ended {
-            status: Status::NoMemory,
-            disk,
-            history: Vec::new(alloc),
-        };
-    };
-    let (status, disk) = format(disk, numbers);
-    Ended {
-        status,
-        disk,
-        history: Vec::new(alloc),
     }
 }
 
@@ -313,35 +252,53 @@ pub fn run<R: Threads + Wait + Sync, K: Shelf, O: Sink, D: Disk, G: Gate>(
     disk: D,
     gate: &G,
 ) -> Ended<D>
-    // Which words are refused.
+    // The words are refused, or they say a command, whose promise holds.
+    ensures comes { Comes (map string_bytes words.now) (outside (K.files shelf.old) (K.faults shelf.old) (O.contents out.old) (O.faults out.old) (O.empty_takes out.old) (D.told disk)) (outside (K.files shelf.new) (K.faults shelf.new) (O.contents out.new) (O.faults out.new) (O.empty_takes out.new) (D.told result.disk)) result.status result.history.items }
+    // The promise of whatever command the words say holds.
+    ensures promise { (command : Command) → Says (map string_bytes words.now) command → Promises command (outside (K.files shelf.old) (K.faults shelf.old) (O.contents out.old) (O.faults out.old) (O.empty_takes out.old) (D.told disk)) (outside (K.files shelf.new) (K.faults shelf.new) (O.contents out.new) (O.faults out.new) (O.empty_takes out.new) (D.told result.disk)) result.status result.history.items }
+    // Usage comes exactly where the words are refused.
     ensures usage { IsRefused (map string_bytes words.now) → result.status ≡ Status.Usage }
-    // When each status comes. Of `Done` this says that the history is legal from the state that the disk was opened in, in the order of the lines, each caller's entries following its lines, and what a crash may leave of it.
-    ensures comes { Comes (map string_bytes words.now) (K.files shelf.old)
-        (HasRisen (K.faults shelf.old) (K.faults shelf.new))
-        (HasRisen (O.faults out.old) (O.faults out.new) ⊎ HasRisen (O.empty_takes out.old) (O.empty_takes out.new))
-        (D.told disk) (D.told result.disk) result.history.items result.status }
-    // What the words, the files and the disk's bytes decide comes, but for faults and want of memory.
-    ensures exact { IfSome (K.files shelf.old) (λ files. IsExact (map string_bytes words.now) files (D.told disk) result.status) }
-    // Where all is there and no count rose, the run is done, or memory was wanted.
-    ensures complete { IfSome (K.files shelf.old) (λ files. IsComplete (map string_bytes words.now) files
-        (HasRisen (K.faults shelf.old) (K.faults shelf.new))
-        (HasRisen (O.faults out.old) (O.faults out.new) ⊎ HasRisen (O.empty_takes out.old) (O.empty_takes out.new))
-        (D.told disk) (D.told result.disk) result.history.items result.status) }
-    // A finished run prints the text of its history and nothing else.
-    ensures done { result.status ≡ Status.Done → IfSome (O.contents out.old) (λ had. O.contents out.new ≡ Some (had ++ text_of result.history.items)) }
-    // What stands after any status.
+    ensures refused { result.status ≡ Status.Usage → IsRefused (map string_bytes words.now) }
+    // What stands after any status: the front of the text that the sink took, and the files.
     ensures prefix { IfSome (O.contents out.old) (λ had. (n : ℕ) × (O.contents out.new ≡ Some (had ++ take n (text_of result.history.items)))) }
-    ensures so_far { SoFar (map string_bytes words.now) (K.files shelf.old) (D.told disk) (D.told result.disk) result.history.items }
-    // No file changes.
     ensures files { K.files shelf.new ≡ K.files shelf.old }
     // A status that is decided before the first call leaves no history and prints nothing; one that is decided before the disk is touched leaves the disk.
     ensures silent { IsSilent result.status → (result.history.items ≡ []) × (O.contents out.new ≡ O.contents out.old) }
     ensures early { IsEarly result.status → result.disk ≡ disk }
     // The disk keeps its size, and its counts never fall.
     ensures disk { GoesOn (D.told disk) (D.told result.disk) }
-    // What a `format` answers and leaves.
-    ensures format { (numbers : NumbersValue) → IsFormat (map string_bytes words.now) numbers → FormatStatus numbers (D.told disk) (D.told result.disk) result.status }
-    ensures formatted { (numbers : NumbersValue) → IsFormat (map string_bytes words.now) numbers → result.status ≡ Status.Done → IsTrue (D.told disk).honest → Now (D.told result.disk) (Formats numbers (D.told disk).bytes) }
 {
-    carry_out(rt, alloc, words, shelf, out, disk, gate)
+    let Some(asked) = run_words(words) else {
+        // The grammar decides which words are accepted, and clap assigns their numbers.
+        let Some(_accepted) = format_numbers(words) else {
+            return Ended {
+                status: Status::Usage,
+                disk,
+                history: Vec::new(alloc),
+            };
+        };
+        let Some(numbers) = assigned(alloc, words) else {
+            return Ended {
+                status: Status::NoMemory,
+                disk,
+                history: Vec::new(alloc),
+            };
+        };
+        let (status, disk) = format(disk, numbers);
+        return Ended {
+            status,
+            disk,
+            history: Vec::new(alloc),
+        };
+    };
+    run_script(
+        rt,
+        alloc,
+        asked.threads,
+        &asked.name,
+        shelf,
+        out,
+        disk,
+        gate,
+    )
 }

@@ -2,7 +2,7 @@
 
 ghost use Rattle.std.specs.Prelude.{◌≡◌, [], ◌∷◌, length, MatchOption, map, string_bytes, true, false};
 ghost use Rattle.script_lang.specs.Forms.{is_file};
-ghost use Rattle.voice_main.specs.Words.{IsRunBy, IsNoRun};
+ghost use Rattle.voice_main.specs.Words.{Says, run_command, IsNoRun};
 
 use script_lang::is_file;
 use voice_units::Name;
@@ -29,7 +29,7 @@ pub struct RunWords {
 
 // The words `run NAME`, with what stands for `run` and NAME.
 fn run_serial(verb: &[u8], name: &[u8]) -> Option<RunWords>
-    ensures { MatchOption result (IsNoRun (verb.now ∷ name.now ∷ [])) (λ r. IsRunBy r.threads (verb.now ∷ name.now ∷ []) r.name) }
+    ensures { MatchOption result (IsNoRun (verb.now ∷ name.now ∷ [])) (λ r. Says (verb.now ∷ name.now ∷ []) (run_command r.threads r.name)) }
 {
     if verb != b"run".as_slice() {
         return None;
@@ -45,7 +45,7 @@ fn run_serial(verb: &[u8], name: &[u8]) -> Option<RunWords>
 
 // The words `run NAME --threads` or `run --threads NAME`.
 fn run_threaded(verb: &[u8], first: &[u8], second: &[u8]) -> Option<RunWords>
-    ensures { MatchOption result (IsNoRun (verb.now ∷ first.now ∷ second.now ∷ [])) (λ r. IsRunBy r.threads (verb.now ∷ first.now ∷ second.now ∷ []) r.name) }
+    ensures { MatchOption result (IsNoRun (verb.now ∷ first.now ∷ second.now ∷ [])) (λ r. Says (verb.now ∷ first.now ∷ second.now ∷ []) (run_command r.threads r.name)) }
 {
     if verb != b"run".as_slice() {
         return None;
@@ -74,7 +74,7 @@ fn run_threaded(verb: &[u8], first: &[u8], second: &[u8]) -> Option<RunWords>
 // Three words.
 fn run_three(words: &[String]) -> Option<RunWords>
     requires { length words.now ≡ 3 }
-    ensures { MatchOption result (IsNoRun (map string_bytes words.now)) (λ r. IsRunBy r.threads (map string_bytes words.now) r.name) }
+    ensures { MatchOption result (IsNoRun (map string_bytes words.now)) (λ r. Says (map string_bytes words.now) (run_command r.threads r.name)) }
 {
     let [verb, first, second] = words else {
         unreachable!()
@@ -84,7 +84,7 @@ fn run_three(words: &[String]) -> Option<RunWords>
 
 /// The script that the words run; `None` exactly for words that run none.
 pub fn run_words(words: &[String]) -> Option<RunWords>
-    ensures { MatchOption result (IsNoRun (map string_bytes words.now)) (λ r. IsRunBy r.threads (map string_bytes words.now) r.name) }
+    ensures { MatchOption result (IsNoRun (map string_bytes words.now)) (λ r. Says (map string_bytes words.now) (run_command r.threads r.name)) }
 {
     if words.len() == 3 {
         return run_three(words);

@@ -3,6 +3,7 @@ use Rattle.std.proofs.lemmas.List.{take_all, length-set}
 use Rattle.script_lang.specs.Shown.{Reading}
 use Rattle.script_lang.specs.Verbs.{is_built_verb}
 use Rattle.script_lang.specs.Whole.{IsLineOf}
+use Rattle.voice_store.specs.Shown.{history_of}
 use Rattle.voice_main.specs.Ordered.{InOrder, asked_entries, unset}
 use Rattle.voice_main.proofs.Followed.{none_reached, reached, reached_more, reached_so_far, line_has}
 use Rattle.voice_main.proofs.Going.{rests, goes_further}
@@ -15,7 +16,7 @@ loop-line-init g c = record {
   stands = λ first h. h;
   goes = rests (g.D.Disk.told c.args.store.now.disk);
   callers = c.in_ok-variables.ensures.len ∙ ap (λ (s : Reading). s.callers) c.script.view_is;
-  reaches = none_reached c.args.tapes.now c.args.script.now.lines c.args.store.now.history c.in_ok-variables.variables.items c.requires.history c.in_ok-variables.ensures.unset;
+  reaches = none_reached c.args.tapes.now c.args.script.now.lines (history_of c.args.store.now) c.in_ok-variables.variables.items c.requires.history c.in_ok-variables.ensures.unset;
 }
 
 pub returns-in_err-run_line-clause-stands : goal.returns-in_err-run_line-clause-stands
@@ -28,7 +29,7 @@ returns-in_err-run_line-clause-so_far g c =
     let is : c.line-item.result ≡ get_or c.args.script.now.lines c.loop-line.line-index c.line-item.result = c.line-item.is ∙ ap (λ ls. get_or ls c.loop-line.line-index c.line-item.result) lines in
     let facts = line_has (IsLineOf is_built_verb (length c.args.script.now.samples) c.args.script.now.callers) c.args.script.now.lines c.loop-line.line-index c.line-item.result c.requires.lines.lines within is in
     let there : c.index_mut-own.result.now ≡ get_or c.loop-line.variables.items (c.line-item.result.caller - 1) c.index_mut-own.result.now = search rules in
-    reached_so_far c.args.tapes.now c.args.script.now.lines c.loop-line.line-index c.line-item.result c.loop-line.store.history c.run_line.new.store.history c.loop-line.variables.items (c.line-item.result.caller - 1) c.index_mut-own.result.now within is
+    reached_so_far c.args.tapes.now c.args.script.now.lines c.loop-line.line-index c.line-item.result (history_of c.loop-line.store) (history_of c.run_line.new.store) c.loop-line.variables.items (c.line-item.result.caller - 1) c.index_mut-own.result.now within is
     (omega (arith, facts.least)) (omega (arith, facts.least, facts.most, c.loop-line.invariant.callers)) there c.loop-line.invariant.reaches c.in_err-run_line.ensures.ran
 
 pub loop-line-preserved : goal.loop-line-preserved
@@ -44,15 +45,15 @@ loop-line-preserved g c =
       stands = λ first h. c.in_ok-run_line.ensures.stands first (c.loop-line.invariant.stands first h);
       goes = goes_further (g.D.Disk.told c.args.store.now.disk) (g.D.Disk.told c.loop-line.store.disk) (g.D.Disk.told c.run_line.new.store.disk) c.loop-line.invariant.goes c.in_ok-run_line.ensures.goes;
       callers = length-set c.loop-line.variables.items (c.line-item.result.caller - 1) c.run_line.new.variables ∙ c.loop-line.invariant.callers;
-      reaches = reached_more c.args.tapes.now c.args.script.now.lines c.loop-line.line-index c.line-item.result c.loop-line.store.history c.run_line.new.store.history c.loop-line.variables.items (c.line-item.result.caller - 1) c.index_mut-own.result.now c.run_line.new.variables within is
+      reaches = reached_more c.args.tapes.now c.args.script.now.lines c.loop-line.line-index c.line-item.result (history_of c.loop-line.store) (history_of c.run_line.new.store) c.loop-line.variables.items (c.line-item.result.caller - 1) c.index_mut-own.result.now c.run_line.new.variables within is
           (omega (arith, facts.least)) (omega (arith, facts.least, facts.most, c.loop-line.invariant.callers)) there c.loop-line.invariant.reaches c.in_ok-run_line.ensures.ok;
     }
 
 pub returns-clause-whole : goal.returns-clause-whole
 returns-clause-whole g c =
     let lines : c.deref-line-items.result.now ≡ c.args.script.now.lines = c.deref-line-items.ensures.value ∙ ap (λ (s : Reading). s.lines) c.script.view_is in
-    let so_far = reached c.args.tapes.now c.args.script.now.lines c.loop-line.line-index c.loop-line.store.history c.loop-line.variables.items c.loop-line.invariant.reaches in
-    subst (λ l. InOrder c.args.tapes.now unset l (asked_entries c.loop-line.store.history)) (take_all c.loop-line.line-index c.args.script.now.lines (omega (arith, c.loop-line-test.false, ap length lines))) so_far
+    let so_far = reached c.args.tapes.now c.args.script.now.lines c.loop-line.line-index (history_of c.loop-line.store) c.loop-line.variables.items c.loop-line.invariant.reaches in
+    subst (λ l. InOrder c.args.tapes.now unset l (asked_entries (history_of c.loop-line.store))) (take_all c.loop-line.line-index c.args.script.now.lines (omega (arith, c.loop-line-test.false, ap length lines))) so_far
 
 pub returns-clause-so_far : goal.returns-clause-so_far
-returns-clause-so_far g c = (c.loop-line.line-index, reached c.args.tapes.now c.args.script.now.lines c.loop-line.line-index c.loop-line.store.history c.loop-line.variables.items c.loop-line.invariant.reaches)
+returns-clause-so_far g c = (c.loop-line.line-index, reached c.args.tapes.now c.args.script.now.lines c.loop-line.line-index (history_of c.loop-line.store) c.loop-line.variables.items c.loop-line.invariant.reaches)

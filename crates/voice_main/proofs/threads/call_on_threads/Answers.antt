@@ -3,7 +3,7 @@ use Rattle.voice_main.proofs.Shares.{opened_kept, begun_from, made_from}
 use Rattle.voice_main.proofs.threads.call_on_threads.Goals as goal
 
 pub share-requires-clause-kept : goal.share-requires-clause-kept
-share-requires-clause-kept g c κs within = opened_kept g.D.Disk.told c.args.disk c.in-Ok-open.store c.in-Ok-open.ensures.ok.0 c.in-Ok-open.ensures.state c.in-Ok-open.ensures.ok.3 c.in-Ok-open.ensures.seen
+share-requires-clause-kept g c κs within = opened_kept g.D.Disk.told c.args.disk c.in-Ok-open.store c.in-Ok-open.ensures.ok.0 c.in-Ok-open.ensures.state c.in-Ok-open.ensures.ok.3
 
 pub returns-clause-so_far : goal.returns-clause-so_far
 returns-clause-so_far g c =

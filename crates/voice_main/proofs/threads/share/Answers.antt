@@ -1,6 +1,7 @@
 use Rattle.std.proofs.Common.{◌≡◌, ◌∙◌, length, ap, refl, sym}
 use Rattle.script_lang.specs.Shown.{Reading}
 use Rattle.voice_store.specs.Shown.{Shown}
+use Rattle.voice_store.specs.Shown as shown
 use Rattle.turnstile.specs.Passes.{callers_of}
 use Rattle.voice_server.specs.Kept.{history_of}
 use Rattle.voice_server.specs.Served.{store_of}
@@ -12,7 +13,7 @@ returns-in-Err-clause-so_far g c =
     let same = c.in-Err.ensures.err in (
       0,
       begun_fresh g.D.Disk.told c.args.store c.args.store.origin c.closed.result.disk c.args.tapes.now c.args.script.now c.closed.result.history.items c.requires.kept refl c.requires.tapes
-          (c.closed.ensures.disk ∙ ap (λ (s : Shown g.row.D.Denot). s.disk) same) (c.closed.ensures.history ∙ ap (λ (s : Shown g.row.D.Denot). s.history) same) c.requires.fresh,
+          (c.closed.ensures.disk ∙ ap (λ (s : Shown g.row.D.Denot). s.disk) same) (c.closed.ensures.history ∙ ap (λ (s : Shown g.row.D.Denot). shown.history_of s) same) c.requires.fresh,
     )
 
 pub returns-clause-so_far : goal.returns-clause-so_far
@@ -23,12 +24,12 @@ returns-clause-so_far g c =
     let same = c.close.ensures.same in
     let callers : callers_of server.turnstile ≡ c.args.script.now.callers = made.1 ∙ ap (λ (s : Reading). s.callers) c.script.view_is in
     let count : length c.in-Ok.made.1.items ≡ c.args.script.now.callers = made.2 ∙ ap (λ (s : Reading). s.callers) c.script.view_is in
-    let fresh = ap (λ (s : Shown g.row.D.Denot). s.history) made.0 ∙ c.requires.fresh in
-    let of = all_of (callers_of server.turnstile) c.args.script.now.callers (store_of server).history c.close.result.history callers fresh closed.others in (
+    let fresh = ap (λ (s : Shown g.row.D.Denot). shown.history_of s) made.0 ∙ c.requires.fresh in
+    let of = all_of (callers_of server.turnstile) c.args.script.now.callers (shown.history_of (store_of server)) (shown.history_of c.close.result) callers fresh closed.others in (
       0,
       begun_shared g.D.Disk.told c.close.result c.args.store.origin c.closed-2.result.disk c.args.tapes.now c.args.script.now c.run_threads-passes.result.memory c.closed-2.result.history.items c.close.ensures.kept
-          (same.0 ∙ ap (λ (s : Shown g.row.D.Denot). s.origin) made.0) (same.1 ∙ ap (λ (s : Shown g.row.D.Denot). s.tapes) made.0 ∙ c.requires.tapes) c.closed-2.ensures.disk c.closed-2.ensures.history of
-          (each_own c.args.tapes.now c.args.script.now.lines c.run_threads-passes.result.memory c.args.script.now.callers (length c.args.script.now.samples) history_of server.turnstile (store_of server).history c.close.result.history c.in-Ok.made.1.items c.run_threads-passes.result.passes.items
+          (same.0 ∙ ap (λ (s : Shown g.row.D.Denot). s.origin) made.0) (same.1 ∙ ap (λ (s : Shown g.row.D.Denot). shown.tapes_in s) made.0 ∙ c.requires.tapes) c.closed-2.ensures.disk c.closed-2.ensures.history of
+          (each_own c.args.tapes.now c.args.script.now.lines c.run_threads-passes.result.memory c.args.script.now.callers (length c.args.script.now.samples) history_of server.turnstile (shown.history_of (store_of server)) (shown.history_of c.close.result) c.in-Ok.made.1.items c.run_threads-passes.result.passes.items
           c.requires.whole.lines c.run_threads-passes.ensures.each made.3 count fresh closed.passes_stand of),
     )
 
@@ -40,10 +41,10 @@ returns-clause-finished g c = λ done.
     let same = c.close.ensures.same in
     let callers : callers_of server.turnstile ≡ c.args.script.now.callers = made.1 ∙ ap (λ (s : Reading). s.callers) c.script.view_is in
     let count : length c.in-Ok.made.1.items ≡ c.args.script.now.callers = made.2 ∙ ap (λ (s : Reading). s.callers) c.script.view_is in
-    let fresh = ap (λ (s : Shown g.row.D.Denot). s.history) made.0 ∙ c.requires.fresh in
-    let of = all_of (callers_of server.turnstile) c.args.script.now.callers (store_of server).history c.close.result.history callers fresh closed.others in
+    let fresh = ap (λ (s : Shown g.row.D.Denot). shown.history_of s) made.0 ∙ c.requires.fresh in
+    let of = all_of (callers_of server.turnstile) c.args.script.now.callers (shown.history_of (store_of server)) (shown.history_of c.close.result) callers fresh closed.others in
     made_shared g.D.Disk.told c.close.result c.args.store.origin c.closed-2.result.disk c.args.tapes.now c.args.script.now c.run_threads-passes.result.memory c.closed-2.result.history.items c.close.ensures.kept
-    (same.0 ∙ ap (λ (s : Shown g.row.D.Denot). s.origin) made.0) (same.1 ∙ ap (λ (s : Shown g.row.D.Denot). s.tapes) made.0 ∙ c.requires.tapes) c.closed-2.ensures.disk c.closed-2.ensures.history of
-    (each_own c.args.tapes.now c.args.script.now.lines c.run_threads-passes.result.memory c.args.script.now.callers (length c.args.script.now.samples) history_of server.turnstile (store_of server).history c.close.result.history c.in-Ok.made.1.items c.run_threads-passes.result.passes.items
+    (same.0 ∙ ap (λ (s : Shown g.row.D.Denot). s.origin) made.0) (same.1 ∙ ap (λ (s : Shown g.row.D.Denot). shown.tapes_in s) made.0 ∙ c.requires.tapes) c.closed-2.ensures.disk c.closed-2.ensures.history of
+    (each_own c.args.tapes.now c.args.script.now.lines c.run_threads-passes.result.memory c.args.script.now.callers (length c.args.script.now.samples) history_of server.turnstile (shown.history_of (store_of server)) (shown.history_of c.close.result) c.in-Ok.made.1.items c.run_threads-passes.result.passes.items
     c.requires.whole.lines c.run_threads-passes.ensures.each made.3 count fresh closed.passes_stand of)
     (sym c.closed-2.ensures.finished ∙ done)

@@ -1,6 +1,6 @@
 use Rattle.std.proofs.Common.{◌≡◌, ◌∙◌, [], ◌∷◌, List, ℕ, map, ap, sym, subst, arith}
 use Rattle.std.specs.Prelude.{string_bytes, MatchOption}
-use Rattle.voice_main.specs.Words.{IsNoRun, IsRunBy}
+use Rattle.voice_main.specs.Words.{IsNoRun, Says, run_command}
 use Rattle.voice_main.proofs.Named.{two_items}
 use Rattle.voice_main.proofs.words.run_words.Goals as goal
 
@@ -10,5 +10,5 @@ returns c =
     let n = c.as_bytes-2.result.now in
     let words = two_items string_bytes c.args.words.now c.verb-item.result c.name-item.result (omega arith) (omega arith) c.verb-item.is c.name-item.is in
     let same : (v ∷ n ∷ []) ≡ map string_bytes c.args.words.now = ap (λ x. x ∷ n ∷ []) c.as_bytes.ensures.value ∙ ap (λ x. string_bytes c.verb-item.result ∷ x ∷ []) c.as_bytes-2.ensures.value ∙ sym words in
-    let P : List (List ℕ) → Type 0 = λ ws. MatchOption c.run_serial.result (IsNoRun ws) (λ r. IsRunBy r.threads ws r.name) in
+    let P : List (List ℕ) → Type 0 = λ ws. MatchOption c.run_serial.result (IsNoRun ws) (λ r. Says ws (run_command r.threads r.name)) in
     subst P same c.run_serial.ensures

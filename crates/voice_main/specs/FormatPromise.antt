@@ -1,22 +1,25 @@
--- Formatting a disk.
+-- What `format` answers and leaves.
 --     graces_by numbers      one grace for all classes
 --     HasNumbers numbers shape      the shape has these numbers
 --     HasRoom numbers size      a disk of that size can have it
 --     Formats numbers bytes image      the image is the empty disk of that shape, made of these bytes
 --     IsLeft old new      the disk is as it was
---     FormatStatus numbers old new status      when each status of a `format` comes
-use Rattle.std.specs.Prelude.{ℕ, List, Some, ◌≡◌, ◌≤◌}
+--     FormatStatus numbers old new status      when each status comes
+--     FormatPromise numbers old new status history      all of it
+use Rattle.std.specs.Prelude.{ℕ, List, [], Some, ◌≡◌, ◌≤◌, IsTrue}
 use Rattle.voice_units.specs.Layout.{IsShape, bytes_needed}
 use Rattle.voice_units.specs.declared.shapes.Shape.{Shape}
 use Rattle.voice_units.specs.declared.shapes.Graces.{Graces}
 use Rattle.voice_outside.specs.Counters.{HasRisen}
-use Rattle.voice_outside.specs.Disk.{Told}
+use Rattle.voice_outside.specs.Disk.{Told, Now}
 use Rattle.voice_journal.specs.Formatted.{IsFormatted}
+use Rattle.voice_model.specs.declared.calls.Entry.{Entry}
 use Rattle.voice_model.specs.State as states
 use Rattle.voice_model.specs.Image.{opened_from}
 use Rattle.voice_main.specs.declared.options.FormatNumbers.{FormatNumbers}
 use Rattle.voice_main.specs.declared.status.Status.{Status}
 use Rattle.voice_main.specs.declared.status.Status.TheVariants.{Done, BadShape, DiskFault, NoMemory}
+use Rattle.voice_main.specs.Outside.{Outside}
 
 -- one grace for all classes
 abbrev pub graces_by : FormatNumbers → Graces
@@ -57,3 +60,10 @@ FormatStatus numbers old new BadShape = HasRoom numbers old.size → ⊥
 FormatStatus numbers old new DiskFault = HasRisen old.faults new.faults × HasRoom numbers old.size
 FormatStatus numbers old new NoMemory = IsLeft old new
 FormatStatus numbers old new _ = ⊥
+
+pub record FormatPromise (numbers : FormatNumbers) (old new : Outside) (status : Status) (history : List Entry) : Type 0 where
+  pub comes : FormatStatus numbers old.disk new.disk status
+  pub formatted : status ≡ Done → IsTrue old.disk.honest → Now new.disk (Formats numbers old.disk.bytes)
+  -- it makes no call, and prints nothing
+  pub silent : history ≡ []
+  pub quiet : new.contents ≡ old.contents
