@@ -17,7 +17,7 @@ fn a_lease_is_heard_while_a_frame_is_filled(rt: HostRuntime) -> Result<(), Fail>
     Ok(())
 }
 
-// Sixteen callers take two hundred turns each, and each turn adds one entry.
+// Sixteen callers take five hundred turns each, and each turn adds one entry.
 #[test]
 fn entries_of_sixteen_callers_add_up(rt: HostRuntime) -> Result<(), Fail> {
     let tally = Tally {
@@ -33,17 +33,17 @@ fn entries_of_sixteen_callers_add_up(rt: HostRuntime) -> Result<(), Fail> {
         }
     };
     let hall = Hall { turnstile };
-    run_all(&rt, &hall, passes.as_mut_slice(), 200);
+    run_all(&rt, &hall, passes.as_mut_slice(), 500);
     let Hall { turnstile } = hall;
     let tally = turnstile.close(passes);
-    assert!(rt; tally.total == 3205 && tally.history.len() == 3200);
+    assert!(rt; tally.total == 8005 && tally.history.len() == 8000);
     for caller in 1..17 {
         let made = tally
             .history
             .iter()
             .filter(|entry| entry.caller == caller)
             .count();
-        assert!(rt; made == 200);
+        assert!(rt; made == 500);
     }
     Ok(())
 }

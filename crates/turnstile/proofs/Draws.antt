@@ -1,5 +1,5 @@
 -- A draw keeps the turn rule.
-use Rattle.std.proofs.Common.{◌≡◌, ◌≢◌, ℕ, suc, ◌+◌, ◌%◌, ◌≤◌, List, [], ◌∷◌, ◌++◌, length, Option, true≢false, refl, sym, ap, ◌∙◌, ⊎_elim, inl, inr, arith, length-set}
+use Rattle.std.proofs.Common.{◌≡◌, ◌≢◌, ℕ, suc, ◌+◌, ◌%◌, ◌≤◌, List, ◌∷◌, ◌++◌, length, Option, true≢false, refl, sym, ap, ◌∙◌, ⊎_elim, inl, inr, arith, length-set}
 use Rattle.std.specs.Prelude.{slice_index, slice_set}
 use Rattle.atomic_table.specs.Table.{Me, keeps, Allows}
 use Rattle.voice_model.specs.declared.calls.Entry.{Entry}
@@ -28,7 +28,8 @@ module _ {T O : Type 0} (origin : T → O) (history : T → List Entry) (stands 
         record {
           count = n';
           few = h.few;
-          words = ap (λ (ws : List ℕ). slice_set ws 0 ((slice_index ws 0 + 1) % 18446744073709551616)) h.words ∙ ap (λ (x : ℕ). x ∷ wrapped n.served ∷ wrapped (length n.news) ∷ []) (wraps n.drawn 1 ∙ ap wrapped (let e : n.drawn + 1 ≡ suc n.drawn = omega arith in e));
+          doors = h.doors;
+          words = ap (λ (ws : List ℕ). slice_set ws 0 ((slice_index ws 0 + 1) % 18446744073709551616)) h.words ∙ ap (λ (x : ℕ). x ∷ wrapped n.served ∷ wrapped (length n.news) ∷ h.doors) (wraps n.drawn 1 ∙ ap wrapped (let e : n.drawn + 1 ≡ suc n.drawn = omega arith in e));
           queue = (let q = h.queue in omega arith);
           passes = (length-set s.views id w ∙ h.passes.0, h.passes.1);
           joined = joined_set s.views id v w at refl (ap is_spent (sym out)) h.joined;

@@ -38,6 +38,7 @@ module _ {T O : Type 0} (origin : T → O) (history : T → List Entry) (stands 
       record {
         count = n;
         few = h.few;
+        doors = h.doors;
         words = h.words;
         queue = (let q = h.queue in omega arith);
         passes = (length-set mid other spent_view ∙ length-set s.views id b ∙ h.passes.0, h.passes.1);

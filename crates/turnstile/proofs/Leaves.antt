@@ -29,8 +29,9 @@ module _ {T O : Type 0} (origin : T → O) (history : T → List Entry) (stands 
         record {
           count = n';
           few = h.few;
+          doors = h.doors;
           words = ap (λ (ws : List ℕ). slice_set ws 1 ((slice_index ws 1 + 1) % 18446744073709551616)) h.words
-              ∙ ap (λ (x : ℕ). wrapped n.drawn ∷ x ∷ wrapped (length n.news) ∷ []) (wraps n.served 1 ∙ ap wrapped (let e : n.served + 1 ≡ suc n.served = omega arith in e));
+              ∙ ap (λ (x : ℕ). wrapped n.drawn ∷ x ∷ wrapped (length n.news) ∷ h.doors) (wraps n.served 1 ∙ ap wrapped (let e : n.served + 1 ≡ suc n.served = omega arith in e));
           queue = (let q = h.queue in omega arith);
           passes = (length-set s.views id w ∙ h.passes.0, h.passes.1);
           joined = joined_set s.views id v w at refl (ap is_spent (sym told)) h.joined;

@@ -3,6 +3,7 @@ pub mod Turning
 pub mod Draws
 pub mod Looks
 pub mod Tells
+pub mod Knocks
 pub mod Leaves
 pub mod Opens
 pub mod Splits

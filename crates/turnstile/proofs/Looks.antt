@@ -47,6 +47,7 @@ module _ {T O : Type 0} (origin : T → O) (history : T → List Entry) (stands 
         record {
           count = n;
           few = h.few;
+          doors = h.doors;
           words = ap (λ (ws : List ℕ). slice_set ws 1 (slice_index ws 1)) h.words;
           queue = (let q = h.queue in omega arith);
           passes = (length-set s.views id w ∙ h.passes.0, h.passes.1);

@@ -9,11 +9,12 @@ use Rattle.turnstile.specs.declared.view.Start.{Start}
 use Rattle.turnstile.specs.Turns.{Every, first_view, Each, Apart, Count, FitsOld, Fits, Kept}
 
 module _ {T O : Type 0} (origin : T → O) (history : T → List Entry) (stands : T → Type 0) where
-  pub opens : (k : Start T) (words : List ℕ) (homes : List (Home (Option T))) → k.callers ≤ 16 → 0 < k.callers → stands k.base.value → words ≡ 0 ∷ 0 ∷ 0 ∷ [] → homes ≡ some (Some k.base.value) ∷ [] → Kept origin history stands k (record { words = words; homes = homes; views = first_view history k ∷ [] })
-  opens k words homes few some_ good zeros full =
+  pub opens : (k : Start T) (words doors : List ℕ) (homes : List (Home (Option T))) → k.callers ≤ 16 → 0 < k.callers → stands k.base.value → words ≡ 0 ∷ 0 ∷ 0 ∷ doors → homes ≡ some (Some k.base.value) ∷ [] → Kept origin history stands k (record { words = words; homes = homes; views = first_view history k ∷ [] })
+  opens k words doors homes few some_ good zeros full =
       record {
         count = record { news = []; served = 0; drawn = 0; passes = 1 };
         few = few;
+        doors = doors;
         words = zeros;
         queue = refl;
         passes = (refl, some_);

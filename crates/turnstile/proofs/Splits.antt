@@ -45,6 +45,7 @@ module _ {T O : Type 0} (origin : T → O) (history : T → List Entry) (stands 
       record {
         count = n';
         few = h.few;
+        doors = h.doors;
         words = h.words;
         queue = (let q = h.queue in let e : tickets (mid ++ r ∷ []) ≡ tickets mid + 0 = sum_by_push (λ u. bit (has_ticket u.stage)) mid r in omega arith);
         passes = (length-append mid (r ∷ []) ∙ (let e : length mid + 1 ≡ suc n.passes = omega arith in e), (let m = leads.1 in omega arith));

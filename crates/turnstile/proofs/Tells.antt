@@ -61,8 +61,9 @@ module _ {T O : Type 0} (origin : T → O) (history : T → List Entry) (stands 
         record {
           count = n';
           few = h.few;
+          doors = h.doors;
           words = ap (λ (ws : List ℕ). slice_set ws 2 ((slice_index ws 2 + entries) % 18446744073709551616)) h.words
-              ∙ ap (λ (x : ℕ). wrapped n.drawn ∷ wrapped n.served ∷ x ∷ []) (wraps (length n.news) entries ∙ ap wrapped (ap (λ x. length n.news + x) (sym count) ∙ sym (length-append n.news new)));
+              ∙ ap (λ (x : ℕ). wrapped n.drawn ∷ wrapped n.served ∷ x ∷ h.doors) (wraps (length n.news) entries ∙ ap wrapped (ap (λ x. length n.news + x) (sym count) ∙ sym (length-append n.news new)));
           queue = (let q = h.queue in omega arith);
           passes = (length-set s.views id w ∙ h.passes.0, h.passes.1);
           joined = joined_set s.views id v w at refl (ap is_spent (sym inside)) h.joined;

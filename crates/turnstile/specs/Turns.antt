@@ -126,6 +126,10 @@ module _ {T : Type 0} where
   abbrev pub Leaves : Me (Option T) (View T) → Me (Option T) (View T) → Type 0
   Leaves m r = r ≡ (with_none m.0, m.1)
 
+  -- what a knock does: nothing
+  abbrev pub Stays : Me (Option T) (View T) → Me (Option T) (View T) → Type 0
+  Stays m r = r ≡ m
+
   -- how many views have a ticket
   abbrev pub tickets : List (View T) → ℕ
   tickets views = sum_by (λ v. bit (has_ticket v.stage)) views
@@ -199,11 +203,12 @@ module _ {T O : Type 0} (origin : T → O) (history : T → List Entry) (stands 
       ((y : T) × (homes ≡ some (Some y) ∷ []) × Rests base log y × Each (λ i v. v.stage ≢ Entered) views)
       ⊎ ((homes ≡ none ∷ []) × ((i : ℕ) × (v : View T) × (get_elem? views i ≡ some v) × (v.stage ≡ Entered)))
 
-  -- the turn rule: what the three words, the slot and the views have to do with one another
+  -- the turn rule: what the first three words, the slot and the views have to do with one another; of the doors behind them it says nothing
   pub record Kept (k : Start T) (s : State (Option T) (View T)) : Type 0 where
     pub count : Count
     pub few : k.callers ≤ 16
-    pub words : s.words ≡ wrapped count.drawn ∷ wrapped count.served ∷ wrapped (length count.news) ∷ []
+    pub doors : List ℕ
+    pub words : s.words ≡ wrapped count.drawn ∷ wrapped count.served ∷ wrapped (length count.news) ∷ doors
     pub queue : count.served + tickets s.views ≡ count.drawn
     pub passes : (length s.views ≡ count.passes) × (count.passes ≤ k.callers)
     pub joined : olds_of s.views ≡ spents s.views

@@ -6,7 +6,7 @@ ghost use Rattle.turnstile.specs.declared.view.Stage.TheVariants.{Waiting, Enter
 ghost use Rattle.turnstile.specs.Passes.{made_with, callers_of, seen, mine, IsOf, IsOutside, IsEntered, HasStood, AddsOneTurn};
 
 use crate::parts::{Pass, Turnstile};
-use crate::plays::{Draw, Leave, Look, Tell};
+use crate::plays::{Draw, Knock, Leave, Look, Tell};
 use crate::stands::Stands;
 use std::sync::Wait;
 
@@ -16,6 +16,13 @@ const DRAWN: usize = 0;
 const SERVED: usize = 1;
 
 const TOLD: usize = 2;
+
+// Behind them come the doors, one for each ticket that may be out: the word at which its holder waits.
+fn door_of(ticket: u64) -> usize
+    ensures { (3 ≤ result) × (result < 19) }
+{
+    3 + (ticket % 16) as usize
+}
 
 impl<T: Stands> Pass<T> {
     /// Its caller's number, from 1 on.
@@ -46,14 +53,14 @@ impl<T: Stands> Turnstile<T> {
     }
 
     // Whether it is the pass's turn. If so, it gets the value.
-    fn look(&self, pass: &mut Pass<T>, ticket: u64) -> (bool, u64)
+    fn look(&self, pass: &mut Pass<T>, ticket: u64) -> bool
         requires of { IsOf self.now pass.old }
         requires waits { (pass.old.seat.me.0.stage ≡ Waiting) × (pass.old.seat.me.1 ≡ []) × (ticket ≡ wrapped pass.old.seat.me.0.ticket) }
         ensures same { (pass.new.caller ≡ pass.old.caller) × (pass.new.seat.table_id ≡ pass.old.seat.table_id) }
-        ensures turn { MatchBool result.0 (HasTurn T.origin T.history T.stands (made_with self.now) pass.old.seat.me.0 pass.new.seat.me) (pass.new.seat.me ≡ pass.old.seat.me) }
+        ensures turn { MatchBool result (HasTurn T.origin T.history T.stands (made_with self.now) pass.old.seat.me.0 pass.new.seat.me) (pass.new.seat.me ≡ pass.old.seat.me) }
     {
         let found = self.table.shared.load::<Look>(&mut pass.seat, SERVED);
-        (found == ticket, found)
+        found == ticket
     }
 
     // The value that the pass has in its slot.
@@ -92,14 +99,16 @@ impl<T: Stands> Turnstile<T> {
         ensures same { (pass.new.caller ≡ pass.old.caller) × (pass.new.seat.table_id ≡ pass.old.seat.table_id) }
         ensures turn { HasTurn T.origin T.history T.stands (made_with self.now) pass.old.seat.me.0 pass.new.seat.me }
     {
+        let door = door_of(ticket);
         for _ in rt.forever() {
-            let (turn, found) = self.look(pass, ticket);
-            if turn {
+            // Read before the look, so that no knock is lost.
+            let heard = self.table.shared.peek(door);
+            if self.look(pass, ticket) {
                 return;
             }
             self.table
                 .shared
-                .park(rt, SERVED, (found & 0xffff_ffff) as u32);
+                .park(rt, door, (heard & 0xffff_ffff) as u32);
         }
         unreachable!()
     }
@@ -127,17 +136,31 @@ impl<T: Stands> Turnstile<T> {
             .fetch_add::<Tell>(&mut pass.seat, TOLD, entries);
     }
 
-    // The turn goes to the next.
+    // Wakes the one that waits at the door, if any does, to look again.
+    fn knock(&self, pass: &mut Pass<T>, door: usize)
+        requires of { IsOf self.now pass.old }
+        requires door { (3 ≤ door) × (door < 19) }
+        ensures same { (pass.new.caller ≡ pass.old.caller) × (pass.new.seat.table_id ≡ pass.old.seat.table_id) }
+        ensures stays { pass.new.seat.me ≡ pass.old.seat.me }
+    {
+        self.table
+            .shared
+            .fetch_add::<Knock>(&mut pass.seat, door, 1);
+        self.table.shared.wake_one(door);
+    }
+
+    // The turn goes to the next ticket, and its holder alone is woken.
     fn pass_on(&self, pass: &mut Pass<T>)
         requires of { IsOf self.now pass.old }
         requires told { (pass.old.seat.me.0.stage ≡ Told) × (pass.old.seat.me.1 ≡ []) }
         ensures same { (pass.new.caller ≡ pass.old.caller) × (pass.new.seat.table_id ≡ pass.old.seat.table_id) }
         ensures left { pass.new.seat.me ≡ (with_none pass.old.seat.me.0, []) }
     {
-        self.table
+        let served = self
+            .table
             .shared
             .fetch_add::<Leave>(&mut pass.seat, SERVED, 1);
-        self.table.shared.wake_all(SERVED);
+        self.knock(pass, door_of(served.wrapping_add(1)));
     }
 
     /// Hands the value back, with the number of entries that its history gained: at most two, a landing of no caller and one of this caller. Who enters must leave, or all others wait for good.

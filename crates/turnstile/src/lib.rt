@@ -9,6 +9,6 @@ mod stands;
 mod view;
 
 pub use parts::{Pass, Turnstile};
-pub use plays::{Draw, Leave, Look, Meet, OneMore, Tell};
+pub use plays::{Draw, Knock, Leave, Look, Meet, OneMore, Tell};
 pub use stands::Stands;
 pub use view::{Old, Stage, Start, TurnRule, View};

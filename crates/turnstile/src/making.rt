@@ -85,7 +85,7 @@ impl<T: Stands> Turnstile<T> {
             let Some(value) = value else { unreachable!() };
             return Err((NoMemory, value));
         }
-        match Table::new(alloc, &[0, 0, 0], slots, &start) {
+        match Table::new(alloc, &[0; 19], slots, &start) {
             Ok((table, seat)) => Ok((Turnstile { table }, Pass { caller: 1, seat })),
             Err(Refused { mut slots }) => {
                 let Some(slot) = slots.pop() else {

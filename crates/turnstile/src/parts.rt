@@ -16,5 +16,5 @@ pub struct Pass<T: Stands> {
 pub struct Turnstile<T: Stands> {
     pub(crate) table: Table<Option<T>, View<T>, Start<T>, TurnRule, Global>,
     ghost some: { (0 < table.shared.key.callers) × (table.shared.key.callers ≤ 16) },
-    ghost sizes: { (table.shared.table_id.words ≡ 3) × (table.shared.table_id.slots ≡ 1) },
+    ghost sizes: { (table.shared.table_id.words ≡ 19) × (table.shared.table_id.slots ≡ 1) },
 }

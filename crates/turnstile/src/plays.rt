@@ -39,6 +39,15 @@ impl<T: Stands> Play<Option<T>, View<T>> for Leave {
     ghost then = { λ s m n r. Leaves m r };
 }
 
+/// A pass knocks at a door.
+pub struct Knock;
+
+impl<T: Stands> Play<Option<T>, View<T>> for Knock {
+    ghost use Rattle.turnstile.specs.Turns.{Stays};
+
+    ghost then = { λ s m n r. Stays m r };
+}
+
 /// One pass more, split off pass 1.
 pub struct OneMore;
 
