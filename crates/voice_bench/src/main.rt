@@ -15,6 +15,7 @@ mod recording;
 mod replaying;
 mod report;
 mod ropes;
+mod serving;
 mod stores;
 mod turning;
 
@@ -30,6 +31,7 @@ const MEASUREMENTS: &str = "\
 voice_bench MEASUREMENT: prints figures of this machine.
   copy     a window of 16 KiB out of frames, against a plain copy of its bytes
   turns    turns a second with 1, 2, 4 and 16 callers
+  serve    calls through a server with 1, 2, 4 and 16 callers on threads, against the store alone
   parse    a script of 65,535 lines, against cutting its bytes into words
   loud     loudness and talk of 1 MiB of samples, against a plain sum
   rows     making and forgetting an interest, by the number of interests
@@ -59,6 +61,9 @@ fn measure<R: Env + Print + Clock + AllocGlobal + Files<File = File> + Threads +
     }
     if is_asked(word, "turns") {
         turning::measure(rt)?;
+    }
+    if is_asked(word, "serve") {
+        serving::measure(rt)?;
     }
     measure_samples(rt, word)?;
     measure_tables(rt, word)?;

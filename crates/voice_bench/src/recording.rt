@@ -2,6 +2,7 @@
 
 ghost use Rattle.std.specs.Prelude.{◌≡◌, IfOk};
 ghost use Rattle.std.specs.Arc.{arc_value};
+ghost use Rattle.voice_store.specs.Shown.{tapes_in};
 
 use crate::bare;
 use crate::report::ratio;
@@ -77,8 +78,8 @@ fn time_store<R: Clock>(
     tapes: &Tapes,
     take: Take,
 ) -> io::Result<Duration>
-    requires { store.old.tapes ≡ tapes.now }
-    ensures { store.new.tapes ≡ store.old.tapes }
+    requires { tapes_in store.old ≡ tapes.now }
+    ensures { tapes_in store.new ≡ tapes_in store.old }
 {
     let start = Instant::now(rt)?;
     record(store, tapes, take)?;
@@ -112,7 +113,7 @@ fn compare<R: Clock>(
     disk: &mut MemDisk,
     tapes: &Tapes,
 ) -> io::Result<(Duration, Duration)>
-    requires { store.old.tapes ≡ tapes.now }
+    requires { tapes_in store.old ≡ tapes.now }
 {
     let mut room = bytes_of(alloc, 0, BLOCK)?;
     let frame = bytes_of(alloc, 0, FRAME)?;
@@ -137,7 +138,7 @@ fn new_recorder(
     shape: &Shape,
     tapes: &Arc<Tapes, Global>,
 ) -> io::Result<Store<MemDisk>>
-    ensures { IfOk result (λ store. store.tapes ≡ arc_value tapes.now) }
+    ensures { IfOk result (λ store. tapes_in store ≡ arc_value tapes.now) }
 {
     let disk = new_disk(alloc, shape)?;
     new_store(alloc, disk, shape, tapes)

@@ -3,6 +3,7 @@
 ghost use Rattle.std.specs.Prelude.{◌≡◌, ◌≤◌, IsTrue, IfOk};
 ghost use Rattle.std.specs.Arc.{arc_value};
 ghost use Rattle.voice_journal.specs.Readings.{extent};
+ghost use Rattle.voice_store.specs.Shown.{tapes_in};
 
 use std::alloc::{AllocError, Global};
 use std::fs::File;
@@ -81,7 +82,7 @@ pub fn new_store<D: Disk + Drop>(
     shape: &Shape,
     tapes: &Arc<Tapes, Global>,
 ) -> io::Result<Store<D>>
-    ensures { IfOk result (λ store. store.tapes ≡ arc_value tapes.now) }
+    ensures { IfOk result (λ store. tapes_in store ≡ arc_value tapes.now) }
 {
     if size_of(shape) > disk.size() {
         return Err(io::Error::from(ErrorKind::InvalidInput));
@@ -109,8 +110,8 @@ fn made(reply: &Reply) -> io::Result<()> {
 
 /// Records samples of the tapes.
 pub fn record<D: Disk>(store: &mut Store<D>, tapes: &Tapes, take: Take) -> io::Result<()>
-    requires { store.old.tapes ≡ tapes.now }
-    ensures { store.new.tapes ≡ store.old.tapes }
+    requires { tapes_in store.old ≡ tapes.now }
+    ensures { tapes_in store.new ≡ tapes_in store.old }
 {
     if !tapes.has(take) {
         return Err(io::Error::from(ErrorKind::InvalidInput));
@@ -150,7 +151,7 @@ pub fn is_live<D: Disk>(store: &mut Store<D>, rope: RopeId) -> bool {
 
 // Records rope 1, and cuts rope 2 out of it.
 fn begin_edits<D: Disk>(store: &mut Store<D>, tapes: &Tapes) -> io::Result<()>
-    requires { store.old.tapes ≡ tapes.now }
+    requires { tapes_in store.old ≡ tapes.now }
 {
     let take = Take {
         tape: 0,
