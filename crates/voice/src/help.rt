@@ -7,7 +7,8 @@ pub const VERSION: &str = "voice 0.1.0\n";
 pub const HELP: &str = "\
 voice: a voice manager. It runs a script of calls, and prints one line for each.
 
-  voice run NAME     runs the script NAME of the current folder
+  voice run NAME     runs the script NAME of the current folder, line by line; with
+                     --threads behind it, each caller's lines on a thread of its own
   voice format       formats the disk anew, and forgets what it has; options with a
                      number behind each: --block 4096, --blocks 15000,
                      --area 1048576, --grace 86400, --lanes 8 (the defaults)
