@@ -24,19 +24,19 @@ module _ {T O : Type 0} (origin : T → O) (history : T → List Entry) (stands 
         keeps,
         tt,
         subst (Kept origin history stands k) (λ i. record { words = slice_set s.words word x; homes = s.homes; views = sym (set_again s.views id m.0 at) i })
-        (record {
-          count = h.count;
-          few = h.few;
-          doors = d.0;
-          words = ap (λ (ws : List ℕ). slice_set ws word x) h.words ∙ d.1;
-          queue = h.queue;
-          passes = h.passes;
-          joined = h.joined;
-          callers = h.callers;
-          views = h.views;
-          olds = h.olds;
-          apart = h.apart;
-          lies = h.lies;
-        }),
+            (record {
+              count = h.count;
+              few = h.few;
+              doors = d.0;
+              words = ap (λ (ws : List ℕ). slice_set ws word x) h.words ∙ d.1;
+              queue = h.queue;
+              passes = h.passes;
+              joined = h.joined;
+              callers = h.callers;
+              views = h.views;
+              olds = h.olds;
+              apart = h.apart;
+              lies = h.lies;
+            }),
         refl,
       )
