@@ -1,0 +1,4 @@
+pub mod Quiet
+pub mod Playing
+pub mod Ordering
+pub mod Finished
