@@ -1,19 +1,19 @@
 -- Two finished runs of one script print the same.
---     Settled files name bytes history      what a finished run without faults tells
+--     Settled files name bytes history      what a finished run tells
 use Rattle.std.proofs.Common.{◌≡◌, ℕ, ◌+◌, ◌-◌, List, [], ◌∷◌, ◌++◌, map, length, take, false, Option, Some, None, refl, sym, ◌∙◌, ap, subst}
 use Rattle.voice_model.specs.State.{State}
 use Rattle.voice_model.specs.Text.{text_from, text_of, entry_text}
 use Rattle.voice_model.specs.declared.calls.Entry.{Entry}
 use Rattle.script_lang.specs.declared.scripts.Line.{Line}
-use Rattle.voice_main.specs.Ordered.{InOrder, unset, asked_entries}
+use Rattle.voice_main.specs.Ordered.{InOrder, unset}
 use Rattle.voice_main.specs.Ran.{Serial}
 use Rattle.voice_main.specs.RunPromise.{NoFaults}
-use Rattle.std.specs.Prelude.{IfSome, IsTrue}
+use Rattle.std.specs.Prelude.{IfSome}
 use Rattle.std.specs.FinMap.{get}
 use Rattle.voice_outside.specs.Disk.{Told}
 use Rattle.voice_outside.specs.Files.{Files}
 use Rattle.voice_model.specs.State.{opened}
-use Rattle.voice_model.specs.Replay.{Rebuilt, recovered}
+use Rattle.voice_model.specs.Replay.{recovered}
 use Rattle.voice_model.specs.Image as image
 use Rattle.script_lang.specs.Shown.{Reading}
 use Rattle.script_lang.specs.Verbs.{is_built_verb}
@@ -23,7 +23,7 @@ use Rattle.voice_main.specs.declared.status.Status.TheVariants.{Done}
 use Rattle.voice_main.specs.Load.{AreFiles}
 use Rattle.voice_main.specs.Ran.{IsReady, RanWhole}
 use Rattle.voice_main.specs.RunPromise.{IsRead, IsComplete}
-use Rattle.run_laws.specs.Laws.{Seen, seen, IsDone, GainAlike, RunsPrintAlike}
+use Rattle.run_laws.specs.Laws.{Seen, seen, IsCalm, IsDone, CalmRunsTellOfNoFault, RunsPrintAlike}
 use Rattle.run_laws.specs.Alike.{without_acks, SameButAcks}
 use Rattle.run_laws.specs.Laws.{HistoriesAreDetermined}
 use Rattle.run_laws.proofs.Quiet.{are_answered, all_asked}
@@ -45,7 +45,7 @@ pub one_history : (first : State) (tapes : List (List ℕ)) (lines : List Line) 
     → Serial first tapes lines k history → Serial first tapes lines k other → NoFaults history → NoFaults other → SameButAcks history other
 one_history first tapes lines k history other none s t calm still =
     lines_alike first tapes unset (take k lines) history other (asked_order first tapes lines k history none s calm) (asked_order first tapes lines k other none t still)
-        s.legal t.legal (are_answered history calm) (are_answered other still)
+    s.legal t.legal (are_answered history calm) (are_answered other still)
 
 pub histories_are_determined : HistoriesAreDetermined
 histories_are_determined = record { histories = one_history; texts = one_text }
@@ -59,7 +59,6 @@ pub record Settled (files : Files) (name bytes : List ℕ) (history : List Entry
   pub first : State
   pub opens : image.opened_from bytes ≡ Some first
   pub serial : Serial first tapes script.lines (length script.lines) history
-  pub calm : NoFaults history
 
 opened_sure : (bytes : List ℕ) (first : State) (x : image.Reading) → image.opened_by bytes x ≡ Some first → first.doubt ≡ None
 opened_sure bytes first (image.Reading.Reads journal r) p =
@@ -73,10 +72,7 @@ is_read disk first (image.Reading.Bad place) is p = cc
 settled : (name : List ℕ) (files : Files) (bytes : List ℕ) (a b : Seen) (old new : Told) (history : List Entry) → IsDone name files bytes a old (seen b new) history → Settled files name bytes history
 settled name files bytes a b old new history d =
     let ran : RanWhole false files name old new history = subst (λ (o : Option Files). IfSome o (λ files. RanWhole false files name old new history)) d.shelf d.promise.comes in
-    let complete : IsComplete files name (seen a old) (seen b new) history Done =
-      subst (λ (o : Option Files). IfSome o (λ files. IsComplete files name (seen a old) (seen b new) history Done)) d.shelf d.promise.complete in
     let opens : image.opened_from old.bytes ≡ Some ran.performed.first = ran.performed.disk.opened d.honest in
-    let read : IsRead old = is_read old ran.performed.first (image.reading old.bytes) refl opens in
     record {
       script = ran.script;
       tapes = ran.tapes;
@@ -84,8 +80,19 @@ settled name files bytes a b old new history d =
       first = ran.performed.first;
       opens = ap image.opened_from (sym d.image) ∙ opens;
       serial = ran.performed.made_so;
-      calm = (complete (record { script = ran.script; tapes = ran.tapes; ready = ran.ready }) d.honest read d.calm.shelf d.calm.sink d.calm.disk).1;
     }
+
+calm_run : (old new : Told) (name : List ℕ) (files : Files) (bytes : List ℕ) (a b : Seen) (history : List Entry) → IsDone name files bytes a old (seen b new) history → IsCalm (seen a old) (seen b new) → NoFaults history
+calm_run old new name files bytes a b history d calm =
+    let ran : RanWhole false files name old new history = subst (λ (o : Option Files). IfSome o (λ files. RanWhole false files name old new history)) d.shelf d.promise.comes in
+    let complete : IsComplete files name (seen a old) (seen b new) history Done =
+    subst (λ (o : Option Files). IfSome o (λ files. IsComplete files name (seen a old) (seen b new) history Done)) d.shelf d.promise.complete in
+    let opens : image.opened_from old.bytes ≡ Some ran.performed.first = ran.performed.disk.opened d.honest in
+    let read : IsRead old = is_read old ran.performed.first (image.reading old.bytes) refl opens in
+    (complete (record { script = ran.script; tapes = ran.tapes; ready = ran.ready }) d.honest read calm.shelf calm.sink calm.disk).1
+
+pub calm_runs_tell_of_no_fault : (old new : Told) → CalmRunsTellOfNoFault old new
+calm_runs_tell_of_no_fault old new = record { calm = calm_run old new }
 
 -- ---- two of them
 
@@ -101,11 +108,11 @@ one_tapes (t ∷ tapes) (o ∷ other) p =
     let later : map Some tapes ≡ map Some other = cc in
     λ i. first i ∷ one_tapes tapes other later i
 
-module _ (files : Files) (name bytes : List ℕ) (history other : List Entry) (s : Settled files name bytes history) (t : Settled files name bytes other) where
+module _ (files : Files) (name bytes : List ℕ) (history other : List Entry) (s : Settled files name bytes history) (t : Settled files name bytes other) (calm : NoFaults history) (still : NoFaults other) where
   same_script : s.script ≡ t.script
   same_script =
       one_script is_built_verb t.ready.bytes s.script t.script
-          (subst (λ (b : List ℕ). IsScript is_built_verb b s.script) (one_some s.ready.bytes t.ready.bytes (get files name) s.ready.found t.ready.found) s.ready.spelled) t.ready.spelled
+      (subst (λ (b : List ℕ). IsScript is_built_verb b s.script) (one_some s.ready.bytes t.ready.bytes (get files name) s.ready.found t.ready.found) s.ready.spelled) t.ready.spelled
 
   same_tapes : s.tapes ≡ t.tapes
   same_tapes = one_tapes s.tapes t.tapes (sym (subst (λ (r : Reading). AreFiles files r.samples s.tapes) same_script s.ready.samples) ∙ t.ready.samples)
@@ -116,17 +123,17 @@ module _ (files : Files) (name bytes : List ℕ) (history other : List Entry) (s
   moved : Serial t.first t.tapes t.script.lines (length t.script.lines) history
   moved =
       subst (λ (x : State). Serial x t.tapes t.script.lines (length t.script.lines) history) same_first
-          (subst (λ (x : List (List ℕ)). Serial s.first x t.script.lines (length t.script.lines) history) same_tapes
-          (subst (λ (x : Reading). Serial s.first s.tapes x.lines (length x.lines) history) same_script s.serial))
+      (subst (λ (x : List (List ℕ)). Serial s.first x t.script.lines (length t.script.lines) history) same_tapes
+      (subst (λ (x : Reading). Serial s.first s.tapes x.lines (length x.lines) history) same_script s.serial))
 
   settled_alike : SameButAcks history other
   settled_alike =
-      one_history t.first t.tapes t.script.lines (length t.script.lines) history other (opened_sure bytes t.first (image.reading bytes) t.opens) moved t.serial s.calm t.calm
+      one_history t.first t.tapes t.script.lines (length t.script.lines) history other (opened_sure bytes t.first (image.reading bytes) t.opens) moved t.serial calm still
 
 module _ (old new other_old other_new : Told) (name : List ℕ) (files : Files) (bytes : List ℕ) (a b x y : Seen) (history other : List Entry)
-    (d : IsDone name files bytes a old (seen b new) history) (e : IsDone name files bytes x other_old (seen y other_new) other) where
+    (d : IsDone name files bytes a old (seen b new) history) (e : IsDone name files bytes x other_old (seen y other_new) other) (calm : NoFaults history) (still : NoFaults other) where
   done_alike : SameButAcks history other
-  done_alike = settled_alike files name bytes history other (settled name files bytes a b old new history d) (settled name files bytes x y other_old other_new other e)
+  done_alike = settled_alike files name bytes history other (settled name files bytes a b old new history d) (settled name files bytes x y other_old other_new other e) calm still
 
   done_text : text_of history ≡ text_of other
   done_text = one_text history other done_alike
@@ -139,9 +146,9 @@ pub runs_print_alike : (old new other_old other_new : Told) → RunsPrintAlike o
 runs_print_alike old new other_old other_new = record {
   histories = done_alike old new other_old other_new;
   texts = done_text old new other_old other_new;
-  sinks = λ name files bytes had other_had a b x y history other d e lent other_lent. record {
+  sinks = λ name files bytes had other_had a b x y history other d e calm still lent other_lent. record {
     gained = text_of history;
     one = gained_by name files bytes had a b old new history d lent;
-    other = gained_by name files bytes other_had x y other_old other_new other e other_lent ∙ ap (λ (t : List ℕ). Some (other_had ++ t)) (sym (done_text old new other_old other_new name files bytes a b x y history other d e));
+    other = gained_by name files bytes other_had x y other_old other_new other e other_lent ∙ ap (λ (t : List ℕ). Some (other_had ++ t)) (sym (done_text old new other_old other_new name files bytes a b x y history other d e calm still));
   };
 }

@@ -9,7 +9,7 @@ use Rattle.voice_model.specs.declared.calls.Reply.TheVariants as replies
 use Rattle.voice_model.specs.declared.calls.Entry.{Entry}
 use Rattle.script_lang.specs.declared.scripts.Line.{Line}
 use Rattle.script_lang.specs.Errands.{errand_of}
-use Rattle.voice_main.specs.Ordered.{AreBy, Variables, with_those_of, DoesLine, InOrder}
+use Rattle.voice_main.specs.Ordered.{AreBy, Variables, with_those_of, InOrder}
 use Rattle.run_laws.specs.Alike.{without_acks, SameButAcks}
 use Rattle.run_laws.proofs.Quiet.{AreAnswered, answered_front, answered_back, legal_front, legal_back, one_head, one_state_after, same_entry, same_cons, same_append, after_same}
 use Rattle.run_laws.proofs.Playing.{serving_alike}
@@ -34,8 +34,8 @@ line_alike s tapes caller (Some call) (Some lane) (e ∷ es) (f ∷ fs) p q b c 
     let same : e.call ≡ f.call = p.0 ∙ sym q.0 in
     let replied : e.reply ≡ f.reply = one_head s tapes e f same h.0 k.0 a.0 d.0 in
     same_cons e f es fs (same_entry e f (b.0 ∙ sym c.0) same replied)
-        (after_play lane e.reply es fs p.1 (subst (λ (r : Reply). AfterPlay lane r fs) (sym replied) q.1)
-        (λ on on'. serving_alike (step.state_after s tapes e) tapes lane caller Awaited.First es fs tt on on' b.1 c.1 h.1 (subst (λ (x : State). Legal x tapes fs) (sym (one_state_after s tapes e f same replied)) k.1) a.1 d.1))
+    (after_play lane e.reply es fs p.1 (subst (λ (r : Reply). AfterPlay lane r fs) (sym replied) q.1)
+    (λ on on'. serving_alike (step.state_after s tapes e) tapes lane caller Awaited.First es fs tt on on' b.1 c.1 h.1 (subst (λ (x : State). Legal x tapes fs) (sym (one_state_after s tapes e f same replied)) k.1) a.1 d.1))
 
 -- what a line sets doesn't depend on moments
 set_without : (binds : Option (List ℕ)) (es : List Entry) (variables : List Binding) → variables_after binds (without_acks es) variables ≡ variables_after binds es variables
@@ -57,12 +57,12 @@ lines_alike s tapes variables (line ∷ lines) es fs p q h k a d =
     let a' : AreAnswered (p.0 ++ p.1) = subst AreAnswered p.2 a in
     let d' : AreAnswered (q.0 ++ q.1) = subst AreAnswered q.2 d in
     let own : SameButAcks p.0 q.0 =
-      line_alike s tapes line.caller ((errand_of tapes line).asks (variables line.caller)) (errand_of tapes line).serves p.0 q.0 p.4 q.4 p.3 q.3
-          (legal_front s tapes p.0 p.1 h') (legal_front s tapes q.0 q.1 k') (answered_front p.0 p.1 a') (answered_front q.0 q.1 d') in
+    line_alike s tapes line.caller ((errand_of tapes line).asks (variables line.caller)) (errand_of tapes line).serves p.0 q.0 p.4 q.4 p.3 q.3
+    (legal_front s tapes p.0 p.1 h') (legal_front s tapes q.0 q.1 k') (answered_front p.0 p.1 a') (answered_front q.0 q.1 d') in
     let set : variables_after line.bind p.0 (variables line.caller) ≡ variables_after line.bind q.0 (variables line.caller) = set_alike line.bind p.0 q.0 (variables line.caller) own in
     let rest : SameButAcks p.1 q.1 =
-      lines_alike (after s tapes p.0) tapes (with_those_of line.caller (variables_after line.bind p.0 (variables line.caller)) variables) lines p.1 q.1 p.5
-          (subst (λ (own : List Binding). InOrder tapes (with_those_of line.caller own variables) lines q.1) (sym set) q.5)
-          (legal_back s tapes p.0 p.1 h') (subst (λ (x : State). Legal x tapes q.1) (sym (after_same s tapes p.0 q.0 own)) (legal_back s tapes q.0 q.1 k'))
-          (answered_back p.0 p.1 a') (answered_back q.0 q.1 d') in
+    lines_alike (after s tapes p.0) tapes (with_those_of line.caller (variables_after line.bind p.0 (variables line.caller)) variables) lines p.1 q.1 p.5
+    (subst (λ (own : List Binding). InOrder tapes (with_those_of line.caller own variables) lines q.1) (sym set) q.5)
+    (legal_back s tapes p.0 p.1 h') (subst (λ (x : State). Legal x tapes q.1) (sym (after_same s tapes p.0 q.0 own)) (legal_back s tapes q.0 q.1 k'))
+    (answered_back p.0 p.1 a') (answered_back q.0 q.1 d') in
     ap without_acks p.2 ∙ same_append p.0 p.1 ∙ (λ i. own i ++ rest i) ∙ sym (same_append q.0 q.1) ∙ ap without_acks (sym q.2)

@@ -1,12 +1,11 @@
 -- The entries of a serving: a window that is brought back is that of a job that isn't stopped, so all of it was heard.
 --     Awaits lane awaited s      where a window is awaited, the lane's first job isn't stopped
-use Rattle.std.proofs.Common.{◌≡◌, ◌⊎◌, inl, inr, ⊎_elim, ℕ, zero, suc, ◌<◌, ◌==◌, ◌||◌, Bool, true, false, cond, List, [], ◌∷◌, length, Option, Some, None, refl, sym, ◌∙◌, ap, subst}
+use Rattle.std.proofs.Common.{◌≡◌, ◌⊎◌, inl, inr, ℕ, zero, suc, ◌==◌, ◌||◌, Bool, true, false, cond, List, [], ◌∷◌, length, Option, Some, None, refl, sym, ◌∙◌, ap, subst}
 use Rattle.std.specs.Prelude.{slice_set, slice_index_or}
 use Rattle.voice_units.specs.Spots.{window}
 use Rattle.voice_model.specs.Samples.{spots_in_rope}
 use Rattle.voice_model.specs.State.{State, Job, LaneState, lane_at, with_lane, quiet_lane}
-use Rattle.voice_model.specs.Changes.{effect_of}
-use Rattle.voice_model.specs.Step.{Outcome, outcome_of, refusal, first_job, heard_more, with_jobs, brought_back, served, played_on, reply_of_feed, reply_by, answered, after_reply, state_by, state_after, MayReply, IsReply, IsAnswer, Legal}
+use Rattle.voice_model.specs.Step.{Outcome, outcome_of, refusal, first_job, heard_more, with_jobs, brought_back, served, reply_of_feed, reply_by, after_reply, state_by, state_after, MayReply, IsReply, IsAnswer, Legal}
 use Rattle.voice_model.specs.Follows.{Awaited, IsStopped, IsAwaited, after_feed, then_awaited, Goes_on, Serving}
 use Rattle.voice_model.specs.declared.calls.Call.{Call}
 use Rattle.voice_model.specs.declared.calls.Call.TheVariants as calls
@@ -77,7 +76,7 @@ window_goes : (s : State) (tapes : List (List ℕ)) (lane : ℕ) (back : Option 
     → IsWindow e.reply → IsGoing (first_job (jobs_at (state_after s tapes e) lane))
 window_goes s tapes lane back e same h o w =
     subst (λ (x : State). IsGoing (first_job (jobs_at x lane))) (sym (λ i. state_by (o i) s tapes (same i)))
-        (going_fed s tapes lane back (refusal s tapes (calls.Feed lane back)) (subst IsWindow (answer_of s tapes lane back e same h o) w))
+    (going_fed s tapes lane back (refusal s tapes (calls.Feed lane back)) (subst IsWindow (answer_of s tapes lane back e same h o) w))
 
 -- ---- no job that goes on is answered as stopped
 
@@ -97,6 +96,7 @@ not_stopped block (Some job) g w = by (job.heard == length job.passage) (subst (
   where
     unstopped : Reply
     unstopped = cond (job.heard == length job.passage) (replies.Ended job.number job.heard) (replies.Window job.heard (window block (spots_in_rope job.passage) job.heard))
+
     by : (ended : Bool) → IsStopped (cond ended (replies.Ended job.number job.heard) (replies.Window job.heard (window block (spots_in_rope job.passage) job.heard))) → ⊥
     by true w = w
     by false w = w
@@ -154,5 +154,5 @@ serving_alike s tapes lane caller awaited (e ∷ es) (f ∷ fs) g p q b c h k a 
     let replied : e.reply ≡ f.reply = one_head s tapes e f same h.0 k.0 a.0 d.0 in
     let state : state_after s tapes e ≡ state_after s tapes f = one_state_after s tapes e f same replied in
     same_cons e f es fs (same_entry e f (b.0 ∙ sym c.0) same replied)
-        (on_or_over lane (then_awaited awaited e.reply) es fs p.1 (subst (λ (r : Reply). Goes_on (then_awaited awaited r) (λ next. Serving lane next fs) (fs ≡ [])) (sym replied) q.1)
-        (λ next is on on'. serving_alike (state_after s tapes e) tapes lane caller next es fs (awaits_next s tapes lane awaited next e mine h.0 a.0 is) on on' b.1 c.1 h.1 (subst (λ (x : State). Legal x tapes fs) (sym state) k.1) a.1 d.1))
+    (on_or_over lane (then_awaited awaited e.reply) es fs p.1 (subst (λ (r : Reply). Goes_on (then_awaited awaited r) (λ next. Serving lane next fs) (fs ≡ [])) (sym replied) q.1)
+    (λ next is on on'. serving_alike (state_after s tapes e) tapes lane caller next es fs (awaits_next s tapes lane awaited next e mine h.0 a.0 is) on on' b.1 c.1 h.1 (subst (λ (x : State). Legal x tapes fs) (sym state) k.1) a.1 d.1))

@@ -1,12 +1,12 @@
 -- Where no entry tells of a fault, nothing is ever in doubt, and nothing lands.
 --     AreAnswered history      no entry tells of a fault, entry by entry
 --     one_head      entries of the same call from one state have one reply
-use Rattle.std.proofs.Common.{◌≡◌, ℕ, zero, suc, ◌+◌, Bool, true, false, cond, List, [], ◌∷◌, ◌++◌, map, Option, Some, None, refl, sym, ◌∙◌, ap, subst, arith}
-use Rattle.std.specs.Prelude.{is_some, not, filter, count_by}
+use Rattle.std.proofs.Common.{◌≡◌, ℕ, ◌+◌, Bool, true, false, cond, List, [], ◌∷◌, ◌++◌, Option, Some, None, refl, sym, ◌∙◌, ap, subst, arith}
+use Rattle.std.specs.Prelude.{is_some, not, count_by}
 use Rattle.std.proofs.lemmas.List.Sums.{sum_by-cons}
 use Rattle.voice_model.specs.Samples.{Tagged}
 use Rattle.voice_model.specs.State.{State, Effect}
-use Rattle.voice_model.specs.Step.{Outcome, outcome_of, refusal, on_lanes, with_change, after_answer, windows_home, after_reply, answered, state_by, state_after, IsReply, IsAnswer, Legal, after}
+use Rattle.voice_model.specs.Step.{Outcome, outcome_of, refusal, on_lanes, with_change, windows_home, after_reply, answered, state_by, state_after, IsReply, IsAnswer, Legal, after}
 use Rattle.voice_model.specs.Changes.{effect_of}
 use Rattle.voice_model.specs.declared.calls.Call.{Call}
 use Rattle.voice_model.specs.declared.calls.Call.TheVariants as calls
@@ -16,7 +16,7 @@ use Rattle.voice_model.specs.declared.calls.Entry.{Entry}
 use Rattle.voice_model.proofs.Determined.{one_reply}
 use Rattle.voice_store.specs.Stood.{is_fault, is_fault_of}
 use Rattle.voice_main.specs.RunPromise.{NoFaults}
-use Rattle.voice_main.specs.Ordered.{is_landing, was_asked, asked_entries}
+use Rattle.voice_main.specs.Ordered.{is_landing, asked_entries}
 use Rattle.run_laws.specs.Alike.{entry_of, without_ack, without_acks, SameButAcks}
 
 -- ---- no entry tells of a fault

@@ -1,8 +1,9 @@
 -- What a finished run prints is determined: the laws, as statements.
 --     HistoriesAreDetermined      one history of the same lines from one state, but for its moments
 --     Seen      what a run sees beside its disk
---     IsDone      a run that is done, over these files and from these bytes, with no entry that tells of a fault
---     RunsPrintAlike      two such runs print the same
+--     IsDone      a run that is done, over these files and from these bytes
+--     CalmRunsTellOfNoFault      where no count of faults rose, no entry tells of a fault
+--     RunsPrintAlike      two runs whose entries tell of no fault print the same
 use Rattle.std.specs.Prelude.{ℕ, List, ◌++◌, ◌≡◌, false, Option, Some, None, IsTrue}
 use Rattle.voice_outside.specs.Disk.{Told}
 use Rattle.voice_outside.specs.Files.{Files}
@@ -16,6 +17,7 @@ use Rattle.voice_main.specs.Ran.{Serial}
 use Rattle.voice_main.specs.RunPromise.{NoFaults, RunPromise}
 use Rattle.run_laws.specs.Alike.{SameButAcks}
 
+-- the histories of the first k lines, where nothing is in doubt at first and no entry tells of a fault
 pub record HistoriesAreDetermined : Type 0 where
   pub histories :
       (first : State) (tapes : List (List ℕ)) (lines : List Line) (k : ℕ) (history other : List Entry) → first.doubt ≡ None
@@ -41,13 +43,17 @@ pub record IsCalm (old new : Outside) : Type 0 where
   pub sink : SinkFaulted old new → ⊥
   pub disk : DiskFaulted old new → ⊥
 
--- the run of that name is done, over these files and from these bytes of an honest disk, and no count of faults rose
+-- the run of that name is done, over these files and from these bytes of an honest disk
 pub record IsDone (name : List ℕ) (files : Files) (bytes : List ℕ) (old : Seen) (disk : Told) (new : Outside) (history : List Entry) : Type 0 where
   pub promise : RunPromise false name (seen old disk) new Done history
-  pub calm : IsCalm (seen old disk) new
   pub shelf : old.files ≡ Some files
   pub honest : IsTrue disk.honest
   pub image : disk.bytes ≡ bytes
+
+pub record CalmRunsTellOfNoFault (old new : Told) : Type 0 where
+  pub calm :
+      (name : List ℕ) (files : Files) (bytes : List ℕ) (a b : Seen) (history : List Entry)
+      → IsDone name files bytes a old (seen b new) history → IsCalm (seen a old) (seen b new) → NoFaults history
 
 -- what both sinks gained
 pub record GainAlike (had other_had : List ℕ) (contents other_contents : Option (List ℕ)) : Type 0 where
@@ -56,17 +62,17 @@ pub record GainAlike (had other_had : List ℕ) (contents other_contents : Optio
   pub other : other_contents ≡ Some (other_had ++ gained)
 
 pub record RunsPrintAlike (old new other_old other_new : Told) : Type 0 where
-  -- no entry of either tells of a fault, and they are the same but for their moments
+  -- they are the same but for their moments
   pub histories :
       (name : List ℕ) (files : Files) (bytes : List ℕ) (a b x y : Seen) (history other : List Entry)
-      → IsDone name files bytes a old (seen b new) history → IsDone name files bytes x other_old (seen y other_new) other
+      → IsDone name files bytes a old (seen b new) history → IsDone name files bytes x other_old (seen y other_new) other → NoFaults history → NoFaults other
       → SameButAcks history other
   pub texts :
       (name : List ℕ) (files : Files) (bytes : List ℕ) (a b x y : Seen) (history other : List Entry)
-      → IsDone name files bytes a old (seen b new) history → IsDone name files bytes x other_old (seen y other_new) other
+      → IsDone name files bytes a old (seen b new) history → IsDone name files bytes x other_old (seen y other_new) other → NoFaults history → NoFaults other
       → text_of history ≡ text_of other
   pub sinks :
       (name : List ℕ) (files : Files) (bytes had other_had : List ℕ) (a b x y : Seen) (history other : List Entry)
-      → IsDone name files bytes a old (seen b new) history → IsDone name files bytes x other_old (seen y other_new) other
+      → IsDone name files bytes a old (seen b new) history → IsDone name files bytes x other_old (seen y other_new) other → NoFaults history → NoFaults other
       → a.contents ≡ Some had → x.contents ≡ Some other_had
       → GainAlike had other_had b.contents y.contents
