@@ -1,0 +1,6 @@
+use Rattle.running_tables.proofs.Counts.{each_once}
+use Rattle.running_tables.proofs.Begins.{begins, divided}
+use Rattle.running_tables.proofs.laws.runs_laws.Goals as goal
+
+pub returns : goal.returns
+returns c = record { begins = begins; divided = divided; counted = each_once }
