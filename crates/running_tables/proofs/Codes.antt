@@ -156,3 +156,70 @@ run_count file from (suc n) =
     new e = let low = (in_run file (from + 1) n (record { file = file; index = from }) e).low in omega (arith, low)
     one_more : {m : ℕ} → m ≡ n → 1 + m ≡ suc n
     one_more e = omega (arith, e)
+
+-- how many blocks open recordings have in all
+abbrev pub total : List ℕ → ℕ
+total [] = 0
+total (n ∷ ns) = n + total ns
+
+-- a block of an open recording by its number, in a lane of this many behind the first one
+pub record IsOfLane (lane : ℕ) (ns : List ℕ) (q : BlockPair) : Type 0 where
+  pub at : ℕ
+  pub within : q.index < taken ns at
+  pub of_lane : q.file ≡ 2 * (lane + at) + 1
+
+pub in_odds : (lane : ℕ) (ns : List ℕ) (q : BlockPair) → has_pair (odds lane ns) q ≡ true → IsOfLane lane ns q
+in_odds lane [] q e = cc
+in_odds lane (n ∷ ns) q e =
+    either_way (has_pair (run_of (2 * lane + 1) 0 n) q) (has_pair (odds (lane + 1) ns) q)
+    (λ k. let r = in_run (2 * lane + 1) 0 n q k in
+    let high = r.high in
+    let file = r.of_file in
+    record { at = zero; within = omega (arith, high); of_lane = omega (arith, file) })
+    (λ k. let r = in_odds (lane + 1) ns q k in
+    let file = r.of_lane in
+    record { at = suc r.at; within = r.within; of_lane = omega (arith, file) })
+    (sym (has_append (run_of (2 * lane + 1) 0 n) (odds (lane + 1) ns) q) ∙ e)
+
+pub odds_have : (lane : ℕ) (ns : List ℕ) (at number index : ℕ) → number ≡ lane + at → index < taken ns at → has_pair (odds lane ns) (record { file = 2 * number + 1; index = index }) ≡ true
+odds_have lane [] at number index same within = absurd (omega (arith, within))
+odds_have lane (n ∷ ns) zero number index same within =
+    has_append (run_of (2 * lane + 1) 0 n) (odds (lane + 1) ns) (first (2 * number + 1) index)
+    ∙ or_left (has_pair (run_of (2 * lane + 1) 0 n) (first (2 * number + 1) index)) (has_pair (odds (lane + 1) ns) (first (2 * number + 1) index))
+    (subst (λ f. has_pair (run_of (2 * lane + 1) 0 n) (first f index) ≡ true) (twice lane number same) (run_has (2 * lane + 1) 0 n index (omega arith) (omega (arith, within))))
+  where
+    twice : (l m : ℕ) → m ≡ l + 0 → 2 * l + 1 ≡ 2 * m + 1
+    twice l m e = omega (arith, e)
+odds_have lane (n ∷ ns) (suc at) number index same within =
+    has_append (run_of (2 * lane + 1) 0 n) (odds (lane + 1) ns) (first (2 * number + 1) index)
+    ∙ or_right (has_pair (run_of (2 * lane + 1) 0 n) (first (2 * number + 1) index)) (has_pair (odds (lane + 1) ns) (first (2 * number + 1) index))
+    (odds_have (lane + 1) ns at number index (omega (arith, same)) within)
+
+-- each lane's blocks are counted
+pub odds_count : (lane : ℕ) (ns : List ℕ) → length (distinct (odds lane ns)) ≡ total ns
+odds_count lane [] = refl
+odds_count lane (n ∷ ns) =
+    apart_count (run_of (2 * lane + 1) 0 n) (odds (lane + 1) ns) apart
+    ∙ ap (λ m. m + length (distinct (odds (lane + 1) ns))) (run_count (2 * lane + 1) 0 n)
+    ∙ ap (λ m. n + m) (odds_count (lane + 1) ns)
+  where
+    apart : (q : BlockPair) → has_pair (run_of (2 * lane + 1) 0 n) q ≡ true → has_pair (odds (lane + 1) ns) q ≡ false
+    apart q h =
+        never_true (has_pair (odds (lane + 1) ns) q)
+        (λ k. let near = (in_run (2 * lane + 1) 0 n q h).of_file in
+        let far = (in_odds (lane + 1) ns q k).of_lane in
+        omega (arith, near, far))
+
+-- blocks of files and of open recordings
+pub all_count : (ps : List BlockPair) (ns : List ℕ) → length (distinct (map even ps ++ odds 0 ns)) ≡ length (distinct ps) + total ns
+all_count ps ns =
+    apart_count (map even ps) (odds 0 ns) apart
+    ∙ ap (λ m. m + length (distinct (odds 0 ns))) (even_count ps)
+    ∙ ap (λ m. length (distinct ps) + m) (odds_count 0 ns)
+  where
+    apart : (q : BlockPair) → has_pair (map even ps) q ≡ true → has_pair (odds 0 ns) q ≡ false
+    apart q h =
+        never_true (has_pair (odds 0 ns) q)
+        (λ k. let file = ap (λ (x : BlockPair). x.file) (some_even ps q h).2 in
+        let lane = (in_odds 0 ns q k).of_lane in
+        omega (arith, file, lane))

@@ -1,3 +1,5 @@
 pub mod Begins
 pub mod Counts
 pub mod Codes
+pub mod Passages
+pub mod Free

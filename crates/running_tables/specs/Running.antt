@@ -84,11 +84,11 @@ takings_in s = map (λ lane. taking_blocks s.shape.block lane.taking) s.lanes
 abbrev pub RunsState : Parts → Rebuilt → State → Type 0
 RunsState parts b s = Runs (held_in s) (pledged_in s) (takings_in s) parts b
 
--- the addresses that nobody holds are as many as the definition's free blocks (a statement, not proved yet)
+-- ---- the laws
+
+-- the addresses that nobody holds are as many as the free blocks of the state that the tables show, whatever the bytes of its samples
 abbrev pub CountsFree : Type 0
 CountsFree = (parts : Parts) (b : Rebuilt) (s : State) (fill : Spot → Tagged) → ((x : Spot) → spot_of (fill x) ≡ x) → durable_by fill b.kept ≡ s.kept → RunsState parts b s → open_in parts.blocks.holders ≡ free s
-
--- ---- the laws
 
 pub record RunsLaws : Type 0 where
   -- replay's relation is that of a manager with nothing held
@@ -97,3 +97,5 @@ pub record RunsLaws : Type 0 where
   pub divided : (holders : Holders) → open_in holders + length (given holders) ≡ length holders
   -- and each block that has one address is counted once
   pub counted : (holders : Holders) → ((a c : ℕ) (h : Holder) → holder_at holders a ≡ Some h → holder_at holders c ≡ Some h → a ≡ c) → distinct (given holders) ≡ given holders
+  -- where the tables show a state, the addresses that nobody holds are as many as its free blocks
+  pub free : CountsFree
