@@ -12,17 +12,14 @@ use Rattle.voice_blocks.specs.declared.owner.Holder.{Holder}
 use Rattle.recovery.specs.declared.parts.Parts.{Parts}
 use Rattle.recovery.specs.Shown.{Rebuilds, placed_at}
 use Rattle.running_tables.specs.Running.{Runs, is_wanted, given}
+use Rattle.running_tables.proofs.Codes.{or_left}
 use Rattle.checkpoint.proofs.Held.{all_held}
 
-some_is : {A : Type 0} {x y : A} → Some x ≡ Some y → x ≡ y
+pub some_is : {A : Type 0} {x y : A} → Some x ≡ Some y → x ≡ y
 some_is e = cc
 
 abbrev holder_of : Placed → Holder
 holder_of p = block_of (File p.pair.file) p.pair.index
-
-left_true : (a b : Bool) → a ≡ true → (a || b) ≡ true
-left_true true b e = refl
-left_true false b e = cc
 
 -- an address that places give out is that of one of them, which has what all have
 one_of : (P : Placed → Type 0) (ps : List Placed) (a : ℕ) (h : Holder) → Every P ps → placed_at ps a ≡ Some h → (p : Placed) × P p × (holder_of p ≡ h) × (p.address ≡ a)
@@ -58,7 +55,7 @@ one_address (p ∷ ps) a c h differ e k = by (p.address == a) (p.address == c) r
     by false false m n later = later (behind a m e) (behind c n k)
 
 wanted : (b : Rebuilt) (p : Placed) (h : Holder) → has_pair (used_pairs b.kept) p.pair ≡ true → holder_of p ≡ h → is_wanted (used_pairs b.kept) [] [] h.owner h.index ≡ true
-wanted b p h used same = subst (λ (x : Holder). is_wanted (used_pairs b.kept) [] [] x.owner x.index ≡ true) same (left_true (has_pair (used_pairs b.kept) p.pair) false used)
+wanted b p h used same = subst (λ (x : Holder). is_wanted (used_pairs b.kept) [] [] x.owner x.index ≡ true) same (or_left (has_pair (used_pairs b.kept) p.pair) false used)
 
 pub begins : (parts : Parts) (b : Rebuilt) → Rebuilds parts b → Runs [] [] [] parts b
 begins parts b shows = record {

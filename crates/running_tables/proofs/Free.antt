@@ -8,7 +8,8 @@ use Rattle.voice_units.proofs.Distinct.{same_pair-true, same_count}
 use Rattle.voice_model.specs.Samples.{Tagged, spot_of}
 use Rattle.voice_model.specs.State.{State, Durable, LaneState}
 use Rattle.voice_model.specs.Room.{pairs_of, samples_in_use, taking_blocks, used, free}
-use Rattle.voice_model.specs.Replay.{Placed, Rebuilt, used_pairs, has_place, durable_by}
+use Rattle.voice_model.specs.Replay as replay
+use Rattle.voice_model.specs.Replay.{Rebuilt, used_pairs, has_place, durable_by}
 use Rattle.voice_model.specs.Valid.{Every}
 use Rattle.voice_model.proofs.KeptByChanges.{same_bool}
 use Rattle.voice_model.proofs.PlacesKept.{same_itself, used_placed}
@@ -20,13 +21,11 @@ use Rattle.rope_table.specs.Table.{pair_of, pairs_in}
 use Rattle.recovery.specs.declared.parts.Parts.{Parts}
 use Rattle.checkpoint.specs.Blocks.{IsHeld}
 use Rattle.running_tables.specs.Running.{taken, is_wanted, code_of, given, GivesJust, RunsState, IsGiven, held_in, pledged_in, takings_in}
+use Rattle.running_tables.specs.Laws.{Placed, CountsUsed, CountsFree}
 use Rattle.running_tables.proofs.Counts.{given_at, each_once}
-use Rattle.running_tables.proofs.Begins.{divided}
+use Rattle.running_tables.proofs.Begins.{some_is, divided}
 use Rattle.running_tables.proofs.Codes.{either_way, or_left, or_right, has_append, even, has_even, some_even, odds, in_odds, odds_have, all_count, total}
 use Rattle.running_tables.proofs.Passages.{used_by_state, total_taken}
-
-some_is : {A : Type 0} {x y : A} → Some x ≡ Some y → x ≡ y
-some_is e = cc
 
 -- a block that has an address was given out
 at_given : (hs : Holders) (a : ℕ) (h : Holder) → holder_at hs a ≡ Some h → has_pair (given hs) (code_of h.owner h.index) ≡ true
@@ -40,12 +39,15 @@ at_given (Some g ∷ hs) zero h e =
 at_given (Some g ∷ hs) (suc a) h e = or_right (same_pair (code_of h.owner h.index) (code_of g.owner g.index)) (has_pair (given hs) (code_of h.owner h.index)) (at_given hs a h e)
 
 -- a block with a place has an address
-place_given : (hs : Holders) (places : List Placed) (q : BlockPair) → Every (IsHeld hs) places → has_place places q ≡ true → IsGiven hs (block_of (File q.file) q.index)
+place_given : (hs : Holders) (places : List replay.Placed) (q : BlockPair) → Every (IsHeld hs) places → has_place places q ≡ true → IsGiven hs (block_of (File q.file) q.index)
 place_given hs [] q held e = cc
 place_given hs (place ∷ places) q held e =
     either_way (same_pair place.pair q) (has_place places q)
     (λ k. (place.address, subst (λ (p : BlockPair). holder_at hs place.address ≡ Some (block_of (File p.file) p.index)) (same_pair-true place.pair q k) held.0))
     (λ k. place_given hs places q held.1 k) e
+
+pub rope_blocks : Placed
+rope_blocks held pledged takings parts b runs q e = place_given parts.blocks.holders b.places q runs.addresses (used_placed b.shape.block b.places b.ropes q runs.placed.placed e)
 
 -- the numbers of all blocks in use
 abbrev all_wanted : List BlockPair → List ℕ → List BlockPair
@@ -92,14 +94,17 @@ given_count hs pairs others ps takings alike placed gives =
     (λ q. same_bool (has_pair (given hs) q) (has_pair (all_wanted ps takings) q) (given_there hs pairs others ps takings alike gives q) (there_given hs pairs others ps takings alike placed gives q))
     ∙ all_count ps takings
 
-pub counts_free : (parts : Parts) (b : Rebuilt) (s : State) (fill : Spot → Tagged) → ((x : Spot) → spot_of (fill x) ≡ x) → durable_by fill b.kept ≡ s.kept → RunsState parts b s → open_in parts.blocks.holders ≡ free s
-counts_free parts b s fill same kept runs =
+-- what is free and what is in use are all blocks
+pub counts_used : CountsUsed
+counts_used parts b s fill same kept runs =
     let count = given_count parts.blocks.holders (used_pairs b.kept) (pairs_in b.shape.block (held_in s ++ pledged_in s)) (pairs_of s.shape.block (samples_in_use s)) (takings_in s) (used_by_state b s fill same kept)
-    (λ q e. place_given parts.blocks.holders b.places q runs.addresses (used_placed b.shape.block b.places b.ropes q runs.placed.placed e)) runs.given in
-    let taken_now = total_taken s.shape.block s.lanes in
-    let in_all : length (given parts.blocks.holders) ≡ used s = count ∙ ap (λ n. length (distinct (pairs_of s.shape.block (samples_in_use s))) + n) taken_now in
+    (rope_blocks (held_in s) (pledged_in s) (takings_in s) parts b runs) runs.given in
+    let in_all : length (given parts.blocks.holders) ≡ used s = count ∙ ap (λ n. length (distinct (pairs_of s.shape.block (samples_in_use s))) + n) (total_taken s.shape.block s.lanes) in
     let blocks : length parts.blocks.holders ≡ s.shape.blocks = runs.size ∙ ap (λ (d : Durable Tagged). d.shape.blocks) kept in
-    left_over (open_in parts.blocks.holders) (length (given parts.blocks.holders)) (length parts.blocks.holders) s.shape.blocks (used s) (divided parts.blocks.holders) in_all blocks
+    ap (λ n. open_in parts.blocks.holders + n) (sym in_all) ∙ divided parts.blocks.holders ∙ blocks
+
+pub counts_free : CountsFree
+counts_free parts b s fill same kept runs = left_over (open_in parts.blocks.holders) (used s) s.shape.blocks (counts_used parts b s fill same kept runs)
   where
-    left_over : (o g n blocks taken_all : ℕ) → o + g ≡ n → g ≡ taken_all → n ≡ blocks → o ≡ blocks - taken_all
-    left_over o g n blocks taken_all i j k = omega (arith, i, j, k)
+    left_over : (o u blocks : ℕ) → o + u ≡ blocks → o ≡ blocks - u
+    left_over o u blocks e = omega (arith, e)

@@ -3,3 +3,5 @@ pub mod Counts
 pub mod Codes
 pub mod Passages
 pub mod Free
+pub mod Quiet
+pub mod Recounted

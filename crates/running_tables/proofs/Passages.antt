@@ -17,7 +17,7 @@ use Rattle.rope_table.specs.Table.{pairs_in}
 use Rattle.running_tables.specs.Running.{held_in, pledged_in, takings_in}
 use Rattle.running_tables.proofs.Codes.{has_append, total}
 
-pairs_after : (block : ℕ) (xs ys : List (List Piece)) → pairs_in block (xs ++ ys) ≡ pairs_in block xs ++ pairs_in block ys
+pub pairs_after : (block : ℕ) (xs ys : List (List Piece)) → pairs_in block (xs ++ ys) ≡ pairs_in block xs ++ pairs_in block ys
 pairs_after block [] ys = refl
 pairs_after block (x ∷ xs) ys =
     ap (λ l. pairs_at block (spots_of x) ++ l) (pairs_after block xs ys) ∙ sym (append_assoc (pairs_at block (spots_of x)) (pairs_in block xs) (pairs_in block ys))
@@ -34,7 +34,7 @@ pairs_joined : (block : ℕ) (xs ys : List Tagged) → pairs_of block (xs ++ ys)
 pairs_joined block xs ys = map-append (pair_of block) xs ys
 
 -- the passages of jobs that are not stopped
-abbrev passages_of : List Job → List (List Piece)
+abbrev pub passages_of : List Job → List (List Piece)
 passages_of jobs = map (λ (job : Job). pieces_of (map spot_of job.passage)) (filter (λ (job : Job). not job.stopped) jobs)
 
 job_pairs : (block : ℕ) (jobs : List Job) → pairs_in block (passages_of jobs) ≡ pairs_of block (flat_map held_by_job jobs)

@@ -1,9 +1,12 @@
--- What the tables of a manager that runs show.
+-- What the tables of a running manager show.
 --     taken takings lane      how many blocks the open recording of a lane has taken
---     is_wanted pairs others takings h      whether a block is one of these, one of other lists, or one of an open recording
+--     is_wanted pairs others takings owner index      whether a block is one of these, one of other lists, or one of an open recording
+--     code_of owner index, given holders      a block by numbers;  the blocks that have an address, so
 --     IsGiven holders h      some address is given to the block
---     GivesJust holders pairs block others takings      each address that is given out is that of a wanted block, no block has two, and each block of other lists and of open recordings has one
+--     GivesJust holders pairs others takings      each address that is given out is that of a wanted block, no block has two, and each block of other lists and of open recordings has one
 --     Runs held pledged takings parts b      the tables show what was rebuilt while passages are held, the pieces of a change in doubt are pledged, and recordings are open
+--     held_in s, pledged_in s, takings_in s      what a state holds
+--     RunsState parts b s      the tables show a state, by what was rebuilt
 use Rattle.std.specs.Prelude.{◌≡◌, ℕ, ◌+◌, ◌*◌, ◌<◌, Bool, true, not, ◌||◌, nat_lt, List, [], ◌∷◌, ◌++◌, map, filter, flat_map, length, slice_index_or, Some, None}
 use Rattle.voice_units.specs.Blocks.{BlockPair, has_pair, distinct}
 use Rattle.voice_units.specs.Spots.{Spot, pieces_of}
@@ -80,22 +83,6 @@ pledged_in s = pieces_of (map spot_of (held_by_doubt s.doubt)) ∷ []
 abbrev pub takings_in : State → List ℕ
 takings_in s = map (λ lane. taking_blocks s.shape.block lane.taking) s.lanes
 
--- the tables show a state
+-- the tables show a state, by what was rebuilt
 abbrev pub RunsState : Parts → Rebuilt → State → Type 0
 RunsState parts b s = Runs (held_in s) (pledged_in s) (takings_in s) parts b
-
--- ---- the laws
-
--- the addresses that nobody holds are as many as the free blocks of the state that the tables show, whatever the bytes of its samples
-abbrev pub CountsFree : Type 0
-CountsFree = (parts : Parts) (b : Rebuilt) (s : State) (fill : Spot → Tagged) → ((x : Spot) → spot_of (fill x) ≡ x) → durable_by fill b.kept ≡ s.kept → RunsState parts b s → open_in parts.blocks.holders ≡ free s
-
-pub record RunsLaws : Type 0 where
-  -- replay's relation is that of a manager with nothing held
-  pub begins : (parts : Parts) (b : Rebuilt) → Rebuilds parts b → Runs [] [] [] parts b
-  -- addresses are free or given out
-  pub divided : (holders : Holders) → open_in holders + length (given holders) ≡ length holders
-  -- and each block that has one address is counted once
-  pub counted : (holders : Holders) → ((a c : ℕ) (h : Holder) → holder_at holders a ≡ Some h → holder_at holders c ≡ Some h → a ≡ c) → distinct (given holders) ≡ given holders
-  -- where the tables show a state, the addresses that nobody holds are as many as its free blocks
-  pub free : CountsFree

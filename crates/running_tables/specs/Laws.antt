@@ -1,0 +1,77 @@
+-- The laws of the tables of a running manager, as statements.
+--     IsQuiet s      no job is there, no recording is open, and no change is in doubt
+--     Begins, Quiet      what replay gives, and a state in which nothing is held
+--     Placed      each block of a live rope has an address
+--     Spelled      the durable part has a base
+--     Recounted      only how often each block is held matters, and not in which order
+--     Divided, Counted      how many addresses are free and given out
+--     CountsUsed, CountsFree      how many are those of used blocks, and how many are free, by the state
+use Rattle.std.specs.Prelude.{◌≡◌, ℕ, ◌+◌, true, List, [], ◌∷◌, ◌++◌, length, replicate, Some, None}
+use Rattle.voice_units.specs.Blocks.{BlockPair, has_pair, distinct}
+use Rattle.voice_units.specs.Spots.{Spot}
+use Rattle.voice_units.specs.declared.pieces.Piece.{Piece}
+use Rattle.voice_model.specs.Replay.{Rebuilt, used_pairs, durable_by}
+use Rattle.voice_model.specs.Samples.{Tagged, spot_of}
+use Rattle.voice_model.specs.State.{State, quiet_lane}
+use Rattle.voice_model.specs.Room.{free, used}
+use Rattle.voice_blocks.specs.Holders.{Holders, holder_at, open_in, block_of}
+use Rattle.voice_blocks.specs.declared.owner.Owner.TheVariants.{File}
+use Rattle.voice_blocks.specs.declared.owner.Holder.{Holder}
+use Rattle.rope_table.specs.Table.{uses_in}
+use Rattle.recovery.specs.declared.parts.Parts.{Parts}
+use Rattle.recovery.specs.Shown.{Rebuilds}
+use Rattle.checkpoint.specs.Compact.{ShowsUsed}
+use Rattle.running_tables.specs.Running.{given, IsGiven, Runs, RunsState}
+
+-- no job is there, no recording is open, and no change is in doubt
+pub record IsQuiet (s : State) : Type 0 where
+  pub lanes : s.lanes ≡ replicate (length s.lanes) quiet_lane
+  pub doubt : s.doubt ≡ None
+
+-- tables that show what replay gives are those of a running manager with nothing held
+abbrev pub Begins : Type 0
+Begins = (parts : Parts) (b : Rebuilt) → Rebuilds parts b → Runs [] [] [] parts b
+
+-- and they show each state in which nothing is held
+abbrev pub Quiet : Type 0
+Quiet = (parts : Parts) (b : Rebuilt) (s : State) → Rebuilds parts b → IsQuiet s → RunsState parts b s
+
+-- each block of a live rope has an address
+abbrev pub Placed : Type 0
+Placed = (held pledged : List (List Piece)) (takings : List ℕ) (parts : Parts) (b : Rebuilt) → Runs held pledged takings parts b → (pair : BlockPair) → has_pair (used_pairs b.kept) pair ≡ true → IsGiven parts.blocks.holders (block_of (File pair.file) pair.index)
+
+-- the tables show what a base spells, whatever else is held
+abbrev pub Spelled : Type 0
+Spelled = (held pledged : List (List Piece)) (takings : List ℕ) (parts : Parts) (b : Rebuilt) → Runs held pledged takings parts b → ShowsUsed parts b
+
+-- of held passages it matters only how many have each block
+abbrev pub Recounted : Type 0
+Recounted = (held others pledged : List (List Piece)) (takings : List ℕ) (parts : Parts) (b : Rebuilt) → ((pair : BlockPair) → uses_in b.shape.block others pair ≡ uses_in b.shape.block held pair) → Runs held pledged takings parts b → Runs others pledged takings parts b
+
+-- addresses are free or given out
+abbrev pub Divided : Type 0
+Divided = (holders : Holders) → open_in holders + length (given holders) ≡ length holders
+
+-- where no block has two addresses, each block that is given out is counted once
+abbrev pub Counted : Type 0
+Counted = (holders : Holders) → ((a c : ℕ) (h : Holder) → holder_at holders a ≡ Some h → holder_at holders c ≡ Some h → a ≡ c) → distinct (given holders) ≡ given holders
+
+-- where the tables show a state, whatever the bytes of its samples, the addresses that nobody holds and the blocks in use are all blocks
+abbrev pub CountsUsed : Type 0
+CountsUsed = (parts : Parts) (b : Rebuilt) (s : State) (fill : Spot → Tagged) → ((x : Spot) → spot_of (fill x) ≡ x) → durable_by fill b.kept ≡ s.kept → RunsState parts b s → open_in parts.blocks.holders + used s ≡ s.shape.blocks
+
+-- and so the addresses that nobody holds are as many as the free blocks
+abbrev pub CountsFree : Type 0
+CountsFree = (parts : Parts) (b : Rebuilt) (s : State) (fill : Spot → Tagged) → ((x : Spot) → spot_of (fill x) ≡ x) → durable_by fill b.kept ≡ s.kept → RunsState parts b s → open_in parts.blocks.holders ≡ free s
+
+-- all of them
+pub record RunsLaws : Type 0 where
+  pub begins : Begins
+  pub quiet : Quiet
+  pub placed : Placed
+  pub spelled : Spelled
+  pub recounted : Recounted
+  pub divided : Divided
+  pub counted : Counted
+  pub used_blocks : CountsUsed
+  pub free_blocks : CountsFree
