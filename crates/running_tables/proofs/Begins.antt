@@ -1,11 +1,11 @@
 -- Tables of a manager that runs.
-use Rattle.std.proofs.Common.{◌≡◌, ℕ, suc, ◌+◌, ◌<◌, ◌==◌, Bool, true, false, ◌||◌, cond, List, [], ◌∷◌, length, Option, Some, None, refl, sym, ◌∙◌, ap, subst, arith}
+use Rattle.std.proofs.Common.{◌≡◌, ℕ, ◌+◌, ◌==◌, Bool, true, false, cond, List, [], ◌∷◌, length, Some, None, refl, sym, ◌∙◌, ap, subst, arith}
 use Rattle.std.proofs.lemmas.Bool.{eqb-true}
 use Rattle.voice_units.specs.Blocks.{BlockPair, has_pair}
 use Rattle.voice_model.specs.Replay.{Placed, Rebuilt, used_pairs}
 use Rattle.voice_model.specs.Valid.{Every}
-use Rattle.voice_model.specs.Places.{Pairwise, OfOtherBlock, AtOtherAddress}
-use Rattle.voice_blocks.specs.Holders.{Holders, holder_at, open_in, block_of}
+use Rattle.voice_model.specs.Places.{Pairwise, OfOtherBlock}
+use Rattle.voice_blocks.specs.Holders.{Holders, open_in, block_of}
 use Rattle.voice_blocks.specs.declared.owner.Owner.{Owner}
 use Rattle.voice_blocks.specs.declared.owner.Owner.TheVariants.{File, Taking}
 use Rattle.voice_blocks.specs.declared.owner.Holder.{Holder}
@@ -44,10 +44,13 @@ one_address (p ∷ ps) a c h differ e k = by (p.address == a) (p.address == c) r
   where
     front : (x : ℕ) → (p.address == x) ≡ true → placed_at (p ∷ ps) x ≡ Some h → holder_of p ≡ h
     front x m i = some_is (ap (λ b. cond b (Some (holder_of p)) (placed_at ps x)) (sym m) ∙ i)
+
     behind : (x : ℕ) → (p.address == x) ≡ false → placed_at (p ∷ ps) x ≡ Some h → placed_at ps x ≡ Some h
     behind x m i = ap (λ b. cond b (Some (holder_of p)) (placed_at ps x)) (sym m) ∙ i
+
     never : (x : ℕ) → holder_of p ≡ h → placed_at ps x ≡ Some h → ⊥
     never x f i = let q = one_of (OfOtherBlock p) ps x h differ.0 i in q.1 (same_holder_pair p q.0 (f ∙ sym q.2))
+
     by : (u v : Bool) → (p.address == a) ≡ u → (p.address == c) ≡ v → (placed_at ps a ≡ Some h → placed_at ps c ≡ Some h → a ≡ c) → a ≡ c
     by true true m n later = sym (eqb-true p.address a m) ∙ eqb-true p.address c n
     by true false m n later = absurd (never c (front a m e) (behind c n k))

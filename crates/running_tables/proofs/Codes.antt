@@ -154,6 +154,7 @@ run_count file from (suc n) =
   where
     new : ¬ (has_pair (run_of file (from + 1) n) (record { file = file; index = from }) ≡ true)
     new e = let low = (in_run file (from + 1) n (record { file = file; index = from }) e).low in omega (arith, low)
+
     one_more : {m : ℕ} → m ≡ n → 1 + m ≡ suc n
     one_more e = omega (arith, e)
 

@@ -1,7 +1,7 @@
 -- How many addresses a map has given out.
-use Rattle.std.proofs.Common.{◌≡◌, ℕ, zero, suc, ◌+◌, ◌*◌, Bool, true, false, ◌||◌, cond, List, [], ◌∷◌, Option, Some, None, refl, sym, ◌∙◌, ap, subst, arith}
+use Rattle.std.proofs.Common.{◌≡◌, ℕ, zero, suc, Bool, true, false, cond, [], ◌∷◌, Option, Some, None, refl, sym, ◌∙◌, ap, arith}
 use Rattle.voice_units.specs.Blocks.{BlockPair, same_pair, has_pair, distinct}
-use Rattle.voice_units.proofs.Distinct.{same_pair-true, has_pair-distinct}
+use Rattle.voice_units.proofs.Distinct.{same_pair-true}
 use Rattle.voice_blocks.specs.Holders.{Holders, holder_at, block_of}
 use Rattle.voice_blocks.specs.declared.owner.Owner.{Owner}
 use Rattle.voice_blocks.specs.declared.owner.Owner.TheVariants.{File, Taking}

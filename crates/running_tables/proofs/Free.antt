@@ -1,13 +1,11 @@
 -- The free addresses of tables that show a state.
-use Rattle.std.proofs.Common.{◌≡◌, ℕ, zero, suc, ◌+◌, ◌-◌, ◌*◌, ◌<◌, Bool, true, false, ◌||◌, List, [], ◌∷◌, ◌++◌, map, length, Option, Some, None, refl, sym, ◌∙◌, ap, subst, arith}
+use Rattle.std.proofs.Common.{◌≡◌, ℕ, zero, suc, ◌+◌, ◌-◌, ◌*◌, true, ◌||◌, List, [], ◌∷◌, ◌++◌, map, length, Some, None, sym, ◌∙◌, ap, subst, arith}
 use Rattle.std.proofs.lemmas.Bool.{ltb-true}
-use Rattle.std.specs.Prelude.{sum_by, nat_lt}
-use Rattle.voice_units.specs.Spots.{Spot}
 use Rattle.voice_units.specs.Blocks.{BlockPair, same_pair, has_pair, distinct}
 use Rattle.voice_units.proofs.Distinct.{same_pair-true, same_count}
-use Rattle.voice_model.specs.Samples.{Tagged, spot_of}
-use Rattle.voice_model.specs.State.{State, Durable, LaneState}
-use Rattle.voice_model.specs.Room.{pairs_of, samples_in_use, taking_blocks, used, free}
+use Rattle.voice_model.specs.Samples.{Tagged}
+use Rattle.voice_model.specs.State.{Durable}
+use Rattle.voice_model.specs.Room.{pairs_of, samples_in_use, used}
 use Rattle.voice_model.specs.Replay as replay
 use Rattle.voice_model.specs.Replay.{Rebuilt, used_pairs, has_place, durable_by}
 use Rattle.voice_model.specs.Valid.{Every}
@@ -18,9 +16,8 @@ use Rattle.voice_blocks.specs.declared.owner.Owner.{Owner}
 use Rattle.voice_blocks.specs.declared.owner.Owner.TheVariants.{File, Taking}
 use Rattle.voice_blocks.specs.declared.owner.Holder.{Holder}
 use Rattle.rope_table.specs.Table.{pair_of, pairs_in}
-use Rattle.recovery.specs.declared.parts.Parts.{Parts}
 use Rattle.checkpoint.specs.Blocks.{IsHeld}
-use Rattle.running_tables.specs.Running.{taken, is_wanted, code_of, given, GivesJust, RunsState, IsGiven, held_in, pledged_in, takings_in}
+use Rattle.running_tables.specs.Running.{taken, is_wanted, code_of, given, GivesJust, IsGiven, held_in, pledged_in, takings_in}
 use Rattle.running_tables.specs.Laws.{Placed, CountsUsed, CountsFree}
 use Rattle.running_tables.proofs.Counts.{given_at, each_once}
 use Rattle.running_tables.proofs.Begins.{some_is, divided}
@@ -83,6 +80,7 @@ there_given hs pairs others ps takings alike placed gives q e =
     of_file p k =
         let at : IsGiven hs (block_of (File p.file) p.index) = either_way (has_pair pairs p) (has_pair others p) (placed p) (gives.passages p) k in
         at_given hs at.0 (block_of (File p.file) p.index) at.1
+
     lane_number : (lane file : ℕ) → file ≡ 2 * (0 + lane) + 1 → 2 * lane + 1 ≡ file
     lane_number lane file k = omega (arith, k)
 

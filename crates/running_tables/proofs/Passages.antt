@@ -1,10 +1,10 @@
 -- The blocks that a state uses, as its tables tell them.
-use Rattle.std.proofs.Common.{◌≡◌, ℕ, ◌+◌, Bool, true, false, not, ◌||◌, cond, List, [], ◌∷◌, ◌++◌, map, filter, flat_map, length, refl, sym, ◌∙◌, ap, subst, arith}
+use Rattle.std.proofs.Common.{◌≡◌, ℕ, ◌+◌, Bool, true, false, not, ◌||◌, cond, List, [], ◌∷◌, ◌++◌, map, filter, flat_map, refl, sym, ◌∙◌, ap}
 use Rattle.std.specs.Prelude.{sum_by}
 use Rattle.std.proofs.lemmas.List.{append-nil, append_assoc, map-append}
 use Rattle.std.proofs.lemmas.List.Sums.{sum_by-cons}
 use Rattle.voice_units.specs.Spots.{Spot, pieces_of, spots_of, nowhere}
-use Rattle.voice_units.specs.Blocks.{BlockPair, pair_at, pairs_at, has_pair}
+use Rattle.voice_units.specs.Blocks.{BlockPair, pairs_at, has_pair}
 use Rattle.voice_units.specs.declared.pieces.Piece.{Piece}
 use Rattle.voice_units.proofs.PiecesOfRopes.{spots_of-runs}
 use Rattle.voice_model.specs.Samples.{Tagged, spot_of}
@@ -14,7 +14,7 @@ use Rattle.voice_model.specs.Replay.{Rebuilt, used_pairs, durable_by}
 use Rattle.voice_model.specs.Valid.{live_pairs_of}
 use Rattle.voice_model.proofs.LegalInReplay.{used_filled}
 use Rattle.rope_table.specs.Table.{pairs_in}
-use Rattle.running_tables.specs.Running.{held_in, pledged_in, takings_in}
+use Rattle.running_tables.specs.Running.{held_in, pledged_in}
 use Rattle.running_tables.proofs.Codes.{has_append, total}
 
 pub pairs_after : (block : ℕ) (xs ys : List (List Piece)) → pairs_in block (xs ++ ys) ≡ pairs_in block xs ++ pairs_in block ys
@@ -71,7 +71,7 @@ other_pairs block s =
 
 -- a block is used by a state just if a live rope has it, or a held passage or the change in doubt
 pub used_by_state : (b : Rebuilt) (s : State) (fill : Spot → Tagged) → ((x : Spot) → spot_of (fill x) ≡ x) → durable_by fill b.kept ≡ s.kept → (q : BlockPair) →
-  has_pair (pairs_of s.shape.block (samples_in_use s)) q ≡ (has_pair (used_pairs b.kept) q || has_pair (pairs_in b.shape.block (held_in s ++ pledged_in s)) q)
+    has_pair (pairs_of s.shape.block (samples_in_use s)) q ≡ (has_pair (used_pairs b.kept) q || has_pair (pairs_in b.shape.block (held_in s ++ pledged_in s)) q)
 used_by_state b s fill same kept q =
     ap (λ l. has_pair l q) lists
     ∙ has_append (live_pairs_of s.kept) (pairs_in s.shape.block (held_in s ++ pledged_in s)) q

@@ -1,5 +1,5 @@
 -- States in which nothing is held, and bases.
-use Rattle.std.proofs.Common.{◌≡◌, ℕ, zero, suc, ◌<◌, Bool, true, false, ◌||◌, List, [], ◌∷◌, ◌++◌, map, flat_map, filter, not, length, None, refl, sym, ◌∙◌, ap, subst, arith}
+use Rattle.std.proofs.Common.{◌≡◌, ℕ, zero, suc, true, false, List, [], ◌∷◌, map, flat_map, length, refl, sym, ◌∙◌, ap, subst, arith}
 use Rattle.std.specs.Prelude.{replicate}
 use Rattle.std.proofs.lemmas.Bool.{ltb-true}
 use Rattle.voice_units.specs.Spots.{pieces_of}
@@ -7,13 +7,13 @@ use Rattle.voice_units.specs.Blocks.{BlockPair, has_pair}
 use Rattle.voice_units.specs.declared.pieces.Piece.{Piece}
 use Rattle.voice_model.specs.Samples.{spot_of}
 use Rattle.voice_model.specs.Replay.{Rebuilt, used_pairs}
-use Rattle.voice_model.specs.State.{State, LaneState, quiet_lane}
+use Rattle.voice_model.specs.State.{LaneState, quiet_lane}
 use Rattle.voice_model.specs.Room.{taking_blocks, held_by_doubt}
 use Rattle.voice_blocks.specs.declared.owner.Owner.{Owner}
 use Rattle.voice_blocks.specs.declared.owner.Owner.TheVariants.{File, Taking}
 use Rattle.rope_table.specs.Table.{pairs_in}
 use Rattle.recovery.specs.declared.parts.Parts.{Parts}
-use Rattle.running_tables.specs.Running.{taken, is_wanted, Runs, held_in, pledged_in, takings_in}
+use Rattle.running_tables.specs.Running.{taken, is_wanted, Runs, pledged_in, takings_in}
 use Rattle.running_tables.specs.Laws as laws
 use Rattle.running_tables.proofs.Begins.{begins}
 use Rattle.running_tables.proofs.Passages.{passages_of}

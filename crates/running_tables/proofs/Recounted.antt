@@ -1,9 +1,9 @@
 -- Held passages in another order.
-use Rattle.std.proofs.Common.{◌≡◌, ℕ, zero, suc, ◌+◌, ◌<◌, ◌≤◌, Bool, true, false, ◌||◌, cond, List, [], ◌∷◌, ◌++◌, refl, sym, ◌∙◌, ap, subst, arith}
+use Rattle.std.proofs.Common.{◌≡◌, ℕ, ◌+◌, ◌<◌, ◌≤◌, Bool, true, false, ◌||◌, cond, List, [], ◌∷◌, ◌++◌, refl, sym, ◌∙◌, ap, subst, arith}
 use Rattle.voice_units.specs.Spots.{spots_of}
 use Rattle.voice_units.specs.Blocks.{BlockPair, same_pair, pairs_at, has_pair}
 use Rattle.voice_units.specs.declared.pieces.Piece.{Piece}
-use Rattle.voice_model.specs.Replay.{Rebuilt, used_pairs}
+use Rattle.voice_model.specs.Replay.{used_pairs}
 use Rattle.voice_model.specs.Valid.{Every}
 use Rattle.voice_model.proofs.KeptByChanges.{same_bool}
 use Rattle.voice_model.proofs.PlacesKept.{same_itself}
@@ -11,8 +11,7 @@ use Rattle.voice_units.proofs.Distinct.{same_pair-true}
 use Rattle.rope_table.specs.Table.{uses_by, uses_in, pairs_in, pieces_in}
 use Rattle.voice_blocks.specs.declared.owner.Owner.{Owner}
 use Rattle.voice_blocks.specs.declared.owner.Owner.TheVariants.{File, Taking}
-use Rattle.recovery.specs.declared.parts.Parts.{Parts}
-use Rattle.running_tables.specs.Running.{taken, is_wanted, Runs}
+use Rattle.running_tables.specs.Running.{is_wanted}
 use Rattle.running_tables.specs.Laws as laws
 use Rattle.running_tables.proofs.Codes.{either_way, or_left, or_right, has_append}
 use Rattle.running_tables.proofs.Passages.{pairs_after}
@@ -92,5 +91,6 @@ recounted held others pledged takings parts b same runs = record {
   where
     alike : (q : BlockPair) → has_pair (pairs_in b.shape.block (others ++ pledged)) q ≡ has_pair (pairs_in b.shape.block (held ++ pledged)) q
     alike = same_pledged b.shape.block held others pledged same
+
     uses : (pair : BlockPair) → uses_in parts.ropes.block others pair ≡ uses_in parts.ropes.block held pair
     uses pair = subst (λ n. uses_in n others pair ≡ uses_in n held pair) (sym runs.kept.block) (same pair)

@@ -6,7 +6,7 @@
 --     Recounted      only how often each block is held matters, and not in which order
 --     Divided, Counted      how many addresses are free and given out
 --     CountsUsed, CountsFree      how many are those of used blocks, and how many are free, by the state
-use Rattle.std.specs.Prelude.{◌≡◌, ℕ, ◌+◌, true, List, [], ◌∷◌, ◌++◌, length, replicate, Some, None}
+use Rattle.std.specs.Prelude.{◌≡◌, ℕ, ◌+◌, true, List, [], length, replicate, Some, None}
 use Rattle.voice_units.specs.Blocks.{BlockPair, has_pair, distinct}
 use Rattle.voice_units.specs.Spots.{Spot}
 use Rattle.voice_units.specs.declared.pieces.Piece.{Piece}

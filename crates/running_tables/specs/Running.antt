@@ -8,22 +8,22 @@
 --     held_in s, pledged_in s, takings_in s      what a state holds
 --     RunsState parts b s      the tables show a state, by what was rebuilt
 use Rattle.std.specs.Prelude.{◌≡◌, ℕ, ◌+◌, ◌*◌, ◌<◌, Bool, true, not, ◌||◌, nat_lt, List, [], ◌∷◌, ◌++◌, map, filter, flat_map, length, slice_index_or, Some, None}
-use Rattle.voice_units.specs.Blocks.{BlockPair, has_pair, distinct}
-use Rattle.voice_units.specs.Spots.{Spot, pieces_of}
+use Rattle.voice_units.specs.Blocks.{BlockPair, has_pair}
+use Rattle.voice_units.specs.Spots.{pieces_of}
 use Rattle.voice_units.specs.declared.pieces.Piece.{Piece}
-use Rattle.voice_model.specs.Replay.{Rebuilt, used_pairs, durable_by}
-use Rattle.voice_model.specs.Samples.{Tagged, spot_of}
+use Rattle.voice_model.specs.Replay.{Rebuilt, used_pairs}
+use Rattle.voice_model.specs.Samples.{spot_of}
 use Rattle.voice_model.specs.State.{State}
-use Rattle.voice_model.specs.Room.{free, taking_blocks, held_by_doubt}
+use Rattle.voice_model.specs.Room.{taking_blocks, held_by_doubt}
 use Rattle.voice_model.specs.Places.{IsPlaced, AllUsed}
 use Rattle.voice_model.specs.Valid.{Every, IsRebuilt}
-use Rattle.voice_blocks.specs.Holders.{Holders, holder_at, open_in, block_of}
+use Rattle.voice_blocks.specs.Holders.{Holders, holder_at, block_of}
 use Rattle.voice_blocks.specs.declared.owner.Owner.{Owner}
 use Rattle.voice_blocks.specs.declared.owner.Owner.TheVariants.{File, Taking}
 use Rattle.voice_blocks.specs.declared.owner.Holder.{Holder}
 use Rattle.rope_table.specs.Table.{pairs_in, pair_of}
 use Rattle.recovery.specs.declared.parts.Parts.{Parts}
-use Rattle.recovery.specs.Shown.{Shows, Rebuilds, plain_sample}
+use Rattle.recovery.specs.Shown.{Shows, plain_sample}
 use Rattle.checkpoint.specs.Blocks.{IsHeld}
 
 -- how many blocks the open recording of a lane has taken
