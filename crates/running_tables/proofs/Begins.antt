@@ -22,7 +22,7 @@ abbrev holder_of : Placed → Holder
 holder_of p = block_of (File p.pair.file) p.pair.index
 
 -- an address that places give out is that of one of them, which has what all have
-one_of : (P : Placed → Type 0) (ps : List Placed) (a : ℕ) (h : Holder) → Every P ps → placed_at ps a ≡ Some h → (p : Placed) × P p × (holder_of p ≡ h) × (p.address ≡ a)
+pub one_of : (P : Placed → Type 0) (ps : List Placed) (a : ℕ) (h : Holder) → Every P ps → placed_at ps a ≡ Some h → (p : Placed) × P p × (holder_of p ≡ h) × (p.address ≡ a)
 one_of P [] a h all e = cc
 one_of P (p ∷ ps) a h all e = by (p.address == a) refl (λ k. one_of P ps a h all.1 k)
   where
@@ -38,7 +38,7 @@ same_holder_pair : (p q : Placed) → holder_of p ≡ holder_of q → p.pair ≡
 same_holder_pair p q e = ap (λ (h : Holder). pair_in h.owner h.index) e
 
 -- places of different blocks give a block one address
-one_address : (ps : List Placed) (a c : ℕ) (h : Holder) → Pairwise OfOtherBlock ps → placed_at ps a ≡ Some h → placed_at ps c ≡ Some h → a ≡ c
+pub one_address : (ps : List Placed) (a c : ℕ) (h : Holder) → Pairwise OfOtherBlock ps → placed_at ps a ≡ Some h → placed_at ps c ≡ Some h → a ≡ c
 one_address [] a c h differ e k = cc
 one_address (p ∷ ps) a c h differ e k = by (p.address == a) (p.address == c) refl refl (λ i j. one_address ps a c h differ.1 i j)
   where

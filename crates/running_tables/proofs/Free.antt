@@ -36,7 +36,7 @@ at_given (Some g ∷ hs) zero h e =
 at_given (Some g ∷ hs) (suc a) h e = or_right (same_pair (code_of h.owner h.index) (code_of g.owner g.index)) (has_pair (given hs) (code_of h.owner h.index)) (at_given hs a h e)
 
 -- a block with a place has an address
-place_given : (hs : Holders) (places : List replay.Placed) (q : BlockPair) → Every (IsHeld hs) places → has_place places q ≡ true → IsGiven hs (block_of (File q.file) q.index)
+pub place_given : (hs : Holders) (places : List replay.Placed) (q : BlockPair) → Every (IsHeld hs) places → has_place places q ≡ true → IsGiven hs (block_of (File q.file) q.index)
 place_given hs [] q held e = cc
 place_given hs (place ∷ places) q held e =
     either_way (same_pair place.pair q) (has_place places q)

@@ -5,3 +5,4 @@ pub mod Passages
 pub mod Free
 pub mod Quiet
 pub mod Recounted
+pub mod Doubted

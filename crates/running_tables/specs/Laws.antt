@@ -1,32 +1,37 @@
 -- The laws of the tables of a running manager, as statements.
---     IsQuiet s      no job is there, no recording is open, and no change is in doubt
---     Begins, Quiet      what replay gives, and a state in which nothing is held
+--     AreQuiet lanes      no lane has a job or an open recording
+--     IsDoubted parts b c samples      a change that brings a rope of these samples is in doubt, and nothing else is held
+--     Begins, Quiet, Doubted      what replay gives, a state in which nothing is held, and one in which a change in doubt alone is
 --     Placed      each block of a live rope has an address
 --     Spelled      the durable part has a base
 --     Recounted      only how often each block is held matters, and not in which order
 --     Divided, Counted      how many addresses are free and given out
 --     CountsUsed, CountsFree      how many are those of used blocks, and how many are free, by the state
-use Rattle.std.specs.Prelude.{◌≡◌, ℕ, ◌+◌, true, List, [], length, replicate, Some, None}
+use Rattle.std.specs.Prelude.{◌≡◌, ℕ, ◌+◌, true, List, [], ◌∷◌, ◌++◌, map, length, replicate, Option, Some, None}
 use Rattle.voice_units.specs.Blocks.{BlockPair, has_pair, distinct}
 use Rattle.voice_units.specs.Spots.{Spot}
 use Rattle.voice_units.specs.declared.pieces.Piece.{Piece}
-use Rattle.voice_model.specs.Replay.{Rebuilt, used_pairs, durable_by}
+use Rattle.voice_model.specs.Replay.{Rebuilt, used_pairs, durable_by, brings, is_legal, new_places}
 use Rattle.voice_model.specs.Samples.{Tagged, spot_of}
-use Rattle.voice_model.specs.State.{State, quiet_lane}
-use Rattle.voice_model.specs.Room.{free, used}
+use Rattle.voice_model.specs.State.{State, LaneState, Effect, quiet_lane}
+use Rattle.voice_model.specs.State.Effect.{Recorded, Edited}
+use Rattle.voice_model.specs.Spelling.{keeps_grammar}
+use Rattle.voice_model.specs.Valid.{IsRebuilt}
+use Rattle.voice_model.specs.Places.{IsPlaced, AllUsed}
+use Rattle.voice_model.specs.Room.{free, used, held_by_doubt}
+use Rattle.voice_model.specs.declared.changes.Change.{Change}
 use Rattle.voice_blocks.specs.Holders.{Holders, holder_at, open_in, block_of}
 use Rattle.voice_blocks.specs.declared.owner.Owner.TheVariants.{File}
 use Rattle.voice_blocks.specs.declared.owner.Holder.{Holder}
 use Rattle.rope_table.specs.Table.{uses_in}
 use Rattle.recovery.specs.declared.parts.Parts.{Parts}
-use Rattle.recovery.specs.Shown.{Rebuilds}
+use Rattle.recovery.specs.Shown.{Shows, ShowsPlaces, Rebuilds, plain_sample}
 use Rattle.checkpoint.specs.Compact.{ShowsUsed}
 use Rattle.running_tables.specs.Running.{given, IsGiven, Runs, RunsState}
 
--- no job is there, no recording is open, and no change is in doubt
-pub record IsQuiet (s : State) : Type 0 where
-  pub lanes : s.lanes ≡ replicate (length s.lanes) quiet_lane
-  pub doubt : s.doubt ≡ None
+-- no lane has a job or an open recording
+abbrev pub AreQuiet : List LaneState → Type 0
+AreQuiet lanes = lanes ≡ replicate (length lanes) quiet_lane
 
 -- tables that show what replay gives are those of a running manager with nothing held
 abbrev pub Begins : Type 0
@@ -34,7 +39,29 @@ Begins = (parts : Parts) (b : Rebuilt) → Rebuilds parts b → Runs [] [] [] pa
 
 -- and they show each state in which nothing is held
 abbrev pub Quiet : Type 0
-Quiet = (parts : Parts) (b : Rebuilt) (s : State) → Rebuilds parts b → IsQuiet s → RunsState parts b s
+Quiet = (parts : Parts) (b : Rebuilt) (s : State) → Rebuilds parts b → AreQuiet s.lanes → s.doubt ≡ None → RunsState parts b s
+
+-- the samples of the rope that a change brings, none where it brings no rope
+abbrev pub rope_brought : Option (Effect Spot) → Option (List Spot)
+rope_brought (Some (Recorded id samples)) = Some samples
+rope_brought (Some (Edited id samples)) = Some samples
+rope_brought _ = None
+
+-- while nothing else is held a change that brings a rope may be in doubt: the tables show what was rebuilt before it, and the map holds its new blocks besides
+pub record IsDoubted (parts : Parts) (b : Rebuilt) (c : Change) (samples : List Spot) : Type 0 where
+  pub shows : Shows [] parts b.kept
+  pub places : ShowsPlaces parts.blocks.holders b.shape.blocks (b.places ++ new_places c)
+  pub in_form : parts.form ≡ b.form
+  pub valid : IsRebuilt plain_sample b
+  pub placed : IsPlaced b
+  pub used : AllUsed b
+  pub legal : is_legal b c ≡ true
+  pub grammar : keeps_grammar c ≡ true
+  pub rope : rope_brought (brings c) ≡ Some samples
+
+-- such tables show each state with this change in doubt in which nothing else is held
+abbrev pub Doubted : Type 0
+Doubted = (parts : Parts) (b : Rebuilt) (s : State) (c : Change) → AreQuiet s.lanes → IsDoubted parts b c (map spot_of (held_by_doubt s.doubt)) → RunsState parts b s
 
 -- each block of a live rope has an address
 abbrev pub Placed : Type 0
@@ -68,6 +95,7 @@ CountsFree = (parts : Parts) (b : Rebuilt) (s : State) (fill : Spot → Tagged) 
 pub record RunsLaws : Type 0 where
   pub begins : Begins
   pub quiet : Quiet
+  pub doubted : Doubted
   pub placed : Placed
   pub spelled : Spelled
   pub recounted : Recounted

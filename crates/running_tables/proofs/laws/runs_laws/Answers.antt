@@ -2,6 +2,7 @@ use Rattle.running_tables.proofs.Counts.{each_once}
 use Rattle.running_tables.proofs.Begins.{begins, divided}
 use Rattle.running_tables.proofs.Free.{rope_blocks, counts_used, counts_free}
 use Rattle.running_tables.proofs.Quiet.{quiet, spelled}
+use Rattle.running_tables.proofs.Doubted.{doubted}
 use Rattle.running_tables.proofs.Recounted.{recounted}
 use Rattle.running_tables.proofs.laws.runs_laws.Goals as goal
 
@@ -9,6 +10,7 @@ pub returns : goal.returns
 returns c = record {
   begins = begins;
   quiet = quiet;
+  doubted = doubted;
   placed = rope_blocks;
   spelled = spelled;
   recounted = recounted;
