@@ -6,3 +6,4 @@ pub mod Free
 pub mod Quiet
 pub mod Recounted
 pub mod Doubted
+pub mod Steps

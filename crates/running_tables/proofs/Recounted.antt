@@ -56,7 +56,7 @@ one_has : (P : BlockPair → Type 0) (l : List BlockPair) (q : BlockPair) → Ev
 one_has P [] q h e = cc
 one_has P (p ∷ l) q h e = either_way (same_pair q p) (has_pair l q) (λ k. subst P (sym (same_pair-true q p k)) h.0) (λ k. one_has P l q h.1 k) e
 
-all_have : (P : BlockPair → Type 0) (l : List BlockPair) → ((q : BlockPair) → has_pair l q ≡ true → P q) → Every P l
+pub all_have : (P : BlockPair → Type 0) (l : List BlockPair) → ((q : BlockPair) → has_pair l q ≡ true → P q) → Every P l
 all_have P [] h = tt
 all_have P (p ∷ l) h = (h p (or_left (same_pair p p) (has_pair l p) (same_itself p)), all_have P l (λ q e. h q (or_right (same_pair q p) (has_pair l q) e)))
 

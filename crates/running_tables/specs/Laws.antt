@@ -5,11 +5,13 @@
 --     Placed      each block of a live rope has an address
 --     Spelled      the durable part has a base
 --     Recounted      only how often each block is held matters, and not in which order
+--     Played, Released      a passage is held besides;  a passage is held no longer
+--     while_wanted pairs others takings      what becomes of an address as the blocks that nothing wants get free
 --     Divided, Counted      how many addresses are free and given out
 --     CountsUsed, CountsFree      how many are those of used blocks, and how many are free, by the state
-use Rattle.std.specs.Prelude.{◌≡◌, ℕ, ◌+◌, true, List, [], ◌∷◌, ◌++◌, map, length, replicate, Option, Some, None}
-use Rattle.voice_units.specs.Blocks.{BlockPair, has_pair, distinct}
-use Rattle.voice_units.specs.Spots.{Spot}
+use Rattle.std.specs.Prelude.{◌≡◌, ℕ, ◌+◌, true, cond, List, [], ◌∷◌, ◌++◌, map, length, replicate, Option, Some, None}
+use Rattle.voice_units.specs.Blocks.{BlockPair, has_pair, pairs_at, distinct}
+use Rattle.voice_units.specs.Spots.{Spot, spots_of}
 use Rattle.voice_units.specs.declared.pieces.Piece.{Piece}
 use Rattle.voice_model.specs.Replay.{Rebuilt, used_pairs, durable_by, brings, is_legal, new_places}
 use Rattle.voice_model.specs.Samples.{Tagged, spot_of}
@@ -20,14 +22,14 @@ use Rattle.voice_model.specs.Valid.{IsRebuilt}
 use Rattle.voice_model.specs.Places.{IsPlaced, AllUsed}
 use Rattle.voice_model.specs.Room.{free, used, held_by_doubt}
 use Rattle.voice_model.specs.declared.changes.Change.{Change}
-use Rattle.voice_blocks.specs.Holders.{Holders, holder_at, open_in, block_of}
+use Rattle.voice_blocks.specs.Holders.{Holders, EachBecomes, holder_at, open_in, block_of}
 use Rattle.voice_blocks.specs.declared.owner.Owner.TheVariants.{File}
 use Rattle.voice_blocks.specs.declared.owner.Holder.{Holder}
-use Rattle.rope_table.specs.Table.{uses_in}
+use Rattle.rope_table.specs.Table.{uses_in, pairs_in}
 use Rattle.recovery.specs.declared.parts.Parts.{Parts}
 use Rattle.recovery.specs.Shown.{Shows, ShowsPlaces, Rebuilds, plain_sample}
 use Rattle.checkpoint.specs.Compact.{ShowsUsed}
-use Rattle.running_tables.specs.Running.{given, IsGiven, Runs, RunsState}
+use Rattle.running_tables.specs.Running.{is_wanted, given, IsGiven, Runs, RunsState}
 
 -- no lane has a job or an open recording
 abbrev pub AreQuiet : List LaneState → Type 0
@@ -75,6 +77,23 @@ Spelled = (held pledged : List (List Piece)) (takings : List ℕ) (parts : Parts
 abbrev pub Recounted : Type 0
 Recounted = (held others pledged : List (List Piece)) (takings : List ℕ) (parts : Parts) (b : Rebuilt) → ((pair : BlockPair) → uses_in b.shape.block others pair ≡ uses_in b.shape.block held pair) → Runs held pledged takings parts b → Runs others pledged takings parts b
 
+-- a passage of used blocks is held besides, and the map stays
+abbrev pub Played : Type 0
+Played = (held pledged : List (List Piece)) (takings : List ℕ) (old new : Parts) (b : Rebuilt) (passage : List Piece) → Runs held pledged takings old b
+    → ((pair : BlockPair) → has_pair (pairs_at b.shape.block (spots_of passage)) pair ≡ true → has_pair (used_pairs b.kept) pair ≡ true)
+    → Shows (passage ∷ held) new b.kept → new.form ≡ old.form → new.blocks.holders ≡ old.blocks.holders → Runs (passage ∷ held) pledged takings new b
+
+-- what becomes of an address as the blocks that nothing wants any more get free
+abbrev pub while_wanted : List BlockPair → List BlockPair → List ℕ → Option Holder → Option Holder
+while_wanted pairs others takings None = None
+while_wanted pairs others takings (Some h) = cond (is_wanted pairs others takings h.owner h.index) (Some h) None
+
+-- a passage is held no longer, and its blocks that nothing else wants get free
+abbrev pub Released : Type 0
+Released = (held pledged : List (List Piece)) (takings : List ℕ) (old new : Parts) (b : Rebuilt) (passage : List Piece) → Runs (passage ∷ held) pledged takings old b
+    → Shows held new b.kept → new.form ≡ old.form
+    → EachBecomes (while_wanted (used_pairs b.kept) (pairs_in b.shape.block (held ++ pledged)) takings) old.blocks.holders new.blocks.holders → Runs held pledged takings new b
+
 -- addresses are free or given out
 abbrev pub Divided : Type 0
 Divided = (holders : Holders) → open_in holders + length (given holders) ≡ length holders
@@ -99,6 +118,8 @@ pub record RunsLaws : Type 0 where
   pub placed : Placed
   pub spelled : Spelled
   pub recounted : Recounted
+  pub played : Played
+  pub released : Released
   pub divided : Divided
   pub counted : Counted
   pub used_blocks : CountsUsed

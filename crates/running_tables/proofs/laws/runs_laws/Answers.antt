@@ -4,6 +4,7 @@ use Rattle.running_tables.proofs.Free.{rope_blocks, counts_used, counts_free}
 use Rattle.running_tables.proofs.Quiet.{quiet, spelled}
 use Rattle.running_tables.proofs.Doubted.{doubted}
 use Rattle.running_tables.proofs.Recounted.{recounted}
+use Rattle.running_tables.proofs.Steps.{played, released}
 use Rattle.running_tables.proofs.laws.runs_laws.Goals as goal
 
 pub returns : goal.returns
@@ -14,6 +15,8 @@ returns c = record {
   placed = rope_blocks;
   spelled = spelled;
   recounted = recounted;
+  played = played;
+  released = released;
   divided = divided;
   counted = each_once;
   used_blocks = counts_used;
