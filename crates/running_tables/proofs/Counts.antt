@@ -33,10 +33,11 @@ given_at (Some h ∷ hs) q e =
     (λ k. (zero, h, refl, sym (same_pair-true q (code_of h.owner h.index) k)))
     (λ k. let r = given_at hs q k in (suc r.0, r.1, r.2, r.3)) e
 
-abbrev Single : Holders → Type 0
+-- no block has two addresses
+abbrev pub Single : Holders → Type 0
 Single hs = (a c : ℕ) (h : Holder) → holder_at hs a ≡ Some h → holder_at hs c ≡ Some h → a ≡ c
 
-later_single : (o : Option Holder) (hs : Holders) → Single (o ∷ hs) → Single hs
+pub later_single : (o : Option Holder) (hs : Holders) → Single (o ∷ hs) → Single hs
 later_single o hs single a c h e k = let m = single (suc a) (suc c) h e k in omega (arith, m)
 
 -- where each block has one address, each is given out once

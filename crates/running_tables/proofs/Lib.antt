@@ -7,3 +7,4 @@ pub mod Quiet
 pub mod Recounted
 pub mod Doubted
 pub mod Steps
+pub mod Grown

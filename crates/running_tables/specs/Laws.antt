@@ -6,10 +6,11 @@
 --     Spelled      the durable part has a base
 --     Recounted      only how often each block is held matters, and not in which order
 --     Played, Released      a passage is held besides;  a passage is held no longer
+--     HasGrown lane n takings more, Grown      an open recording has taken n more blocks;  it takes them
 --     while_wanted pairs others takings      what becomes of an address as the blocks that nothing wants get free
 --     Divided, Counted      how many addresses are free and given out
 --     CountsUsed, CountsFree      how many are those of used blocks, and how many are free, by the state
-use Rattle.std.specs.Prelude.{◌≡◌, ℕ, ◌+◌, true, cond, List, [], ◌∷◌, ◌++◌, map, length, replicate, Option, Some, None}
+use Rattle.std.specs.Prelude.{◌≡◌, ℕ, ◌+◌, ◌≤◌, true, cond, List, [], ◌∷◌, ◌++◌, map, length, replicate, Option, Some, None}
 use Rattle.voice_units.specs.Blocks.{BlockPair, has_pair, pairs_at, distinct}
 use Rattle.voice_units.specs.Spots.{Spot, spots_of}
 use Rattle.voice_units.specs.declared.pieces.Piece.{Piece}
@@ -22,14 +23,14 @@ use Rattle.voice_model.specs.Valid.{IsRebuilt}
 use Rattle.voice_model.specs.Places.{IsPlaced, AllUsed}
 use Rattle.voice_model.specs.Room.{free, used, held_by_doubt}
 use Rattle.voice_model.specs.declared.changes.Change.{Change}
-use Rattle.voice_blocks.specs.Holders.{Holders, EachBecomes, holder_at, open_in, block_of}
-use Rattle.voice_blocks.specs.declared.owner.Owner.TheVariants.{File}
+use Rattle.voice_blocks.specs.Holders.{Holders, EachBecomes, holder_at, open_in, block_of, with_taken}
+use Rattle.voice_blocks.specs.declared.owner.Owner.TheVariants.{File, Taking}
 use Rattle.voice_blocks.specs.declared.owner.Holder.{Holder}
 use Rattle.rope_table.specs.Table.{uses_in, pairs_in}
 use Rattle.recovery.specs.declared.parts.Parts.{Parts}
 use Rattle.recovery.specs.Shown.{Shows, ShowsPlaces, Rebuilds, plain_sample}
 use Rattle.checkpoint.specs.Compact.{ShowsUsed}
-use Rattle.running_tables.specs.Running.{is_wanted, given, IsGiven, Runs, RunsState}
+use Rattle.running_tables.specs.Running.{taken, is_wanted, given, IsGiven, Runs, RunsState}
 
 -- no lane has a job or an open recording
 abbrev pub AreQuiet : List LaneState → Type 0
@@ -94,6 +95,17 @@ Released = (held pledged : List (List Piece)) (takings : List ℕ) (old new : Pa
     → Shows held new b.kept → new.form ≡ old.form
     → EachBecomes (while_wanted (used_pairs b.kept) (pairs_in b.shape.block (held ++ pledged)) takings) old.blocks.holders new.blocks.holders → Runs held pledged takings new b
 
+-- the open recording of a lane has taken n more blocks, and those of other lanes none
+pub record HasGrown (lane n : ℕ) (takings more : List ℕ) : Type 0 where
+  pub here : taken more lane ≡ taken takings lane + n
+  pub elsewhere : (other : ℕ) → ¬ (other ≡ lane) → taken more other ≡ taken takings other
+
+-- an open recording takes the lowest free addresses
+abbrev pub Grown : Type 0
+Grown = (held pledged : List (List Piece)) (takings more : List ℕ) (old new : Parts) (b : Rebuilt) (lane n : ℕ) → Runs held pledged takings old b
+    → Shows held new b.kept → new.form ≡ old.form → n ≤ open_in old.blocks.holders → new.blocks.holders ≡ with_taken (Taking lane) (taken takings lane) n old.blocks.holders
+    → HasGrown lane n takings more → Runs held pledged more new b
+
 -- addresses are free or given out
 abbrev pub Divided : Type 0
 Divided = (holders : Holders) → open_in holders + length (given holders) ≡ length holders
@@ -120,6 +132,7 @@ pub record RunsLaws : Type 0 where
   pub recounted : Recounted
   pub played : Played
   pub released : Released
+  pub grown : Grown
   pub divided : Divided
   pub counted : Counted
   pub used_blocks : CountsUsed

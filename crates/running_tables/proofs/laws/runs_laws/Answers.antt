@@ -5,6 +5,7 @@ use Rattle.running_tables.proofs.Quiet.{quiet, spelled}
 use Rattle.running_tables.proofs.Doubted.{doubted}
 use Rattle.running_tables.proofs.Recounted.{recounted}
 use Rattle.running_tables.proofs.Steps.{played, released}
+use Rattle.running_tables.proofs.Grown.{grown}
 use Rattle.running_tables.proofs.laws.runs_laws.Goals as goal
 
 pub returns : goal.returns
@@ -17,6 +18,7 @@ returns c = record {
   recounted = recounted;
   played = played;
   released = released;
+  grown = grown;
   divided = divided;
   counted = each_once;
   used_blocks = counts_used;
