@@ -1,15 +1,14 @@
 -- States in which a change in doubt alone is held.
-use Rattle.std.proofs.Common.{◌≡◌, ℕ, ◌+◌, ◌==◌, Bool, true, false, ◌&&◌, ◌||◌, List, [], ◌∷◌, ◌++◌, map, flat_map, length, Some, None, refl, sym, ◌∙◌, ap, subst, arith}
+use Rattle.std.proofs.Common.{◌≡◌, ℕ, ◌==◌, true, ◌||◌, List, [], ◌∷◌, ◌++◌, map, flat_map, length, refl, sym, ◌∙◌, ap, subst, arith}
 use Rattle.std.proofs.lemmas.Bool.{eqb-true}
 use Rattle.std.proofs.lemmas.List.{append-nil, append_assoc}
 use Rattle.voice_units.specs.Spots.{Spot, pieces_of, spots_of, spots_from, nowhere}
 use Rattle.voice_units.specs.Blocks.{BlockPair, pairs_at, has_pair, blocks_for}
-use Rattle.voice_units.specs.declared.pieces.Piece.{Piece}
 use Rattle.voice_units.proofs.PiecesOfRopes.{both, spots_of-runs}
 use Rattle.voice_model.specs.Samples.{spot_of}
 use Rattle.voice_model.specs.Changes.{with_rope}
-use Rattle.voice_model.specs.Replay.{Placed, Phase, Rebuilt, used_pairs, still_used, new_places, placed_from, has_place, acted, is_legal, may_be_recorded}
-use Rattle.voice_model.specs.State.{State, Durable, Live, LaneState}
+use Rattle.voice_model.specs.Replay.{Placed, Phase, Rebuilt, used_pairs, still_used, new_places, placed_from, has_place, acted, may_be_recorded}
+use Rattle.voice_model.specs.State.{Durable, Live}
 use Rattle.voice_model.specs.Room.{held_by_doubt}
 use Rattle.voice_model.specs.Valid.{Every}
 use Rattle.voice_model.specs.Places.{Pairwise, OfOtherBlock, AtOtherAddress, IsPlaced}

@@ -1,9 +1,9 @@
 -- An open recording takes more blocks.
-use Rattle.std.proofs.Common.{◌≡◌, ℕ, zero, suc, ◌+◌, ◌≤◌, ◌<◌, ◌==◌, ◌⊎◌, inl, inr, Bool, true, false, ◌||◌, List, [], ◌∷◌, ◌++◌, length, Option, Some, None, refl, sym, ◌∙◌, ap, subst, arith}
+use Rattle.std.proofs.Common.{◌≡◌, ℕ, zero, suc, ◌+◌, ◌≤◌, ◌<◌, ◌==◌, ◌⊎◌, inl, inr, Bool, true, false, List, [], ◌∷◌, ◌++◌, length, Some, None, refl, sym, ◌∙◌, ap, subst, arith}
 use Rattle.std.proofs.lemmas.Bool.{lt-ltb, ltb-true, ltb-false, eqb-true, eq-eqb}
 use Rattle.std.specs.Prelude.{nat_lt}
 use Rattle.voice_units.specs.Blocks.{BlockPair}
-use Rattle.voice_model.specs.Replay.{Placed, used_pairs}
+use Rattle.voice_model.specs.Replay.{used_pairs}
 use Rattle.voice_model.specs.Valid.{Every}
 use Rattle.voice_model.proofs.KeptByChanges.{every-imply}
 use Rattle.voice_blocks.specs.Holders.{Holders, holder_at, open_in, block_of, with_taken}
@@ -81,9 +81,10 @@ still_single o from (suc n) (None ∷ hs) low single =
   where
     never : (a : ℕ) (h : Holder) → block_of o from ≡ h → holder_at (with_taken o (suc from) n hs) a ≡ Some h → ⊥
     never a h same e = elim (old_or_new o (suc from) n hs a h e) [
-        inl k ↦ (let less = low (suc a) from (k ∙ ap (λ x. Some x) (sym same)) in omega (arith, less))
+      | inl k ↦ (let less = low (suc a) from (k ∙ ap (λ x. Some x) (sym same)) in omega (arith, less))
       | inr r ↦ (let high = r.low in let i = index_same o from r.index (same ∙ r.is) in omega (arith, high, i))
     ]
+
     cases : Single (with_taken o (suc from) n hs) → Single (with_taken o from (suc n) (None ∷ hs))
     cases later zero zero h e k = refl
     cases later zero (suc c) h e k = absurd (never c h (some_is e) k)
@@ -94,9 +95,10 @@ still_single o from (suc n) (Some g ∷ hs) low single =
   where
     never : (a : ℕ) (h : Holder) → g ≡ h → holder_at (with_taken o from (suc n) hs) a ≡ Some h → ⊥
     never a h same e = elim (old_or_new o from (suc n) hs a h e) [
-        inl k ↦ (let far = single zero (suc a) h (ap (λ x. Some x) same) k in omega (arith, far))
+      | inl k ↦ (let far = single zero (suc a) h (ap (λ x. Some x) same) k in omega (arith, far))
       | inr r ↦ (let high = r.low in let less = low zero r.index (ap (λ x. Some x) (same ∙ r.is)) in omega (arith, high, less))
     ]
+
     cases : Single (with_taken o from (suc n) hs) → Single (with_taken o from (suc n) (Some g ∷ hs))
     cases later zero zero h e k = refl
     cases later zero (suc c) h e k = absurd (never c h (some_is e) k)
@@ -119,9 +121,9 @@ module _ (hs : Holders) (pairs others : List BlockPair) (takings more : List ℕ
 
   only_wanted : (a : ℕ) (h : Holder) → holder_at (with_taken (Taking lane) (taken takings lane) n hs) a ≡ Some h → is_wanted pairs others more h.owner h.index ≡ true
   only_wanted a h e = elim (old_or_new (Taking lane) (taken takings lane) n hs a h e) [
-      inl k ↦ wanted_more h.owner h.index (gives.only a h k)
+    | inl k ↦ wanted_more h.owner h.index (gives.only a h k)
     | inr r ↦ (let high = r.high in let here = grown.here in
-      subst (λ (x : Holder). is_wanted pairs others more x.owner x.index ≡ true) (sym r.is) (lt-ltb r.index (taken more lane) (omega (arith, high, here))))
+        subst (λ (x : Holder). is_wanted pairs others more x.owner x.index ≡ true) (sym r.is) (lt-ltb r.index (taken more lane) (omega (arith, high, here))))
   ]
 
   was_given : (h : Holder) → IsGiven hs h → IsGiven (with_taken (Taking lane) (taken takings lane) n hs) h

@@ -1,11 +1,10 @@
 -- A passage is held, and is held no longer.
-use Rattle.std.proofs.Common.{◌≡◌, ℕ, ◌<◌, Bool, true, false, ◌||◌, cond, List, [], ◌∷◌, ◌++◌, length, Option, Some, None, refl, sym, ◌∙◌, ap, subst, arith}
+use Rattle.std.proofs.Common.{◌≡◌, ℕ, ◌<◌, Bool, true, false, ◌||◌, cond, List, [], ◌∷◌, ◌++◌, length, Option, Some, None, refl, sym, ◌∙◌, ap, subst}
 use Rattle.std.proofs.lemmas.Bool.{lt-ltb}
 use Rattle.voice_units.specs.Spots.{spots_of}
 use Rattle.voice_units.specs.Blocks.{BlockPair, same_pair, pairs_at, has_pair}
-use Rattle.voice_units.specs.declared.pieces.Piece.{Piece}
 use Rattle.voice_units.proofs.Distinct.{same_pair-true}
-use Rattle.voice_model.specs.Replay.{Placed, Rebuilt, used_pairs, has_place}
+use Rattle.voice_model.specs.Replay.{Placed, used_pairs, has_place}
 use Rattle.voice_model.specs.Valid.{Every}
 use Rattle.voice_model.specs.Places.{IsInRange}
 use Rattle.voice_model.proofs.KeptByChanges.{every-append, every-imply}
@@ -17,8 +16,7 @@ use Rattle.voice_blocks.specs.declared.owner.Owner.TheVariants.{File, Taking}
 use Rattle.voice_blocks.specs.declared.owner.Holder.{Holder}
 use Rattle.rope_table.specs.Table.{pair_of, pairs_in}
 use Rattle.checkpoint.specs.Blocks.{IsHeld}
-use Rattle.recovery.specs.declared.parts.Parts.{Parts}
-use Rattle.running_tables.specs.Running.{is_wanted, taken, GivesJust, IsGiven, Runs}
+use Rattle.running_tables.specs.Running.{is_wanted, taken, GivesJust, IsGiven}
 use Rattle.running_tables.specs.Laws.{while_wanted}
 use Rattle.running_tables.specs.Laws as laws
 use Rattle.running_tables.proofs.Codes.{either_way, or_left, or_right, has_append}
