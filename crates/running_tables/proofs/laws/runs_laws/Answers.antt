@@ -1,0 +1,26 @@
+use Rattle.running_tables.proofs.Counts.{each_once}
+use Rattle.running_tables.proofs.Begins.{begins, divided}
+use Rattle.running_tables.proofs.Free.{rope_blocks, counts_used, counts_free}
+use Rattle.running_tables.proofs.Quiet.{quiet, spelled}
+use Rattle.running_tables.proofs.Doubted.{doubted}
+use Rattle.running_tables.proofs.Recounted.{recounted}
+use Rattle.running_tables.proofs.Steps.{played, released}
+use Rattle.running_tables.proofs.Grown.{grown}
+use Rattle.running_tables.proofs.laws.runs_laws.Goals as goal
+
+pub returns : goal.returns
+returns c = record {
+  begins = begins;
+  quiet = quiet;
+  doubted = doubted;
+  placed = rope_blocks;
+  spelled = spelled;
+  recounted = recounted;
+  played = played;
+  released = released;
+  grown = grown;
+  divided = divided;
+  counted = each_once;
+  used_blocks = counts_used;
+  free_blocks = counts_free;
+}

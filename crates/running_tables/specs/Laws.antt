@@ -1,0 +1,139 @@
+-- The laws of the tables of a running manager, as statements.
+--     AreQuiet lanes      no lane has a job or an open recording
+--     IsDoubted parts b c samples      a change that brings a rope of these samples is in doubt, and nothing else is held
+--     Begins, Quiet, Doubted      what replay gives, a state in which nothing is held, and one in which a change in doubt alone is
+--     Placed      each block of a live rope has an address
+--     Spelled      the durable part has a base
+--     Recounted      only how often each block is held matters, and not in which order
+--     Played, Released      a passage is held besides;  a passage is held no longer
+--     HasGrown lane n takings more, Grown      an open recording has taken n more blocks;  it takes them
+--     while_wanted pairs others takings      what becomes of an address as the blocks that nothing wants get free
+--     Divided, Counted      how many addresses are free and given out
+--     CountsUsed, CountsFree      how many are those of used blocks, and how many are free, by the state
+use Rattle.std.specs.Prelude.{◌≡◌, ℕ, ◌+◌, ◌≤◌, true, cond, List, [], ◌∷◌, ◌++◌, map, length, replicate, Option, Some, None}
+use Rattle.voice_units.specs.Blocks.{BlockPair, has_pair, pairs_at, distinct}
+use Rattle.voice_units.specs.Spots.{Spot, spots_of}
+use Rattle.voice_units.specs.declared.pieces.Piece.{Piece}
+use Rattle.voice_model.specs.Replay.{Rebuilt, used_pairs, durable_by, brings, is_legal, new_places}
+use Rattle.voice_model.specs.Samples.{Tagged, spot_of}
+use Rattle.voice_model.specs.State.{State, LaneState, Effect, quiet_lane}
+use Rattle.voice_model.specs.State.Effect.{Recorded, Edited}
+use Rattle.voice_model.specs.Spelling.{keeps_grammar}
+use Rattle.voice_model.specs.Valid.{IsRebuilt}
+use Rattle.voice_model.specs.Places.{IsPlaced, AllUsed}
+use Rattle.voice_model.specs.Room.{free, used, held_by_doubt}
+use Rattle.voice_model.specs.declared.changes.Change.{Change}
+use Rattle.voice_blocks.specs.Holders.{Holders, EachBecomes, holder_at, open_in, block_of, with_taken}
+use Rattle.voice_blocks.specs.declared.owner.Owner.TheVariants.{File, Taking}
+use Rattle.voice_blocks.specs.declared.owner.Holder.{Holder}
+use Rattle.rope_table.specs.Table.{uses_in, pairs_in}
+use Rattle.recovery.specs.declared.parts.Parts.{Parts}
+use Rattle.recovery.specs.Shown.{Shows, ShowsPlaces, Rebuilds, plain_sample}
+use Rattle.checkpoint.specs.Compact.{ShowsUsed}
+use Rattle.running_tables.specs.Running.{taken, is_wanted, given, IsGiven, Runs, RunsState}
+
+-- no lane has a job or an open recording
+abbrev pub AreQuiet : List LaneState → Type 0
+AreQuiet lanes = lanes ≡ replicate (length lanes) quiet_lane
+
+-- tables that show what replay gives are those of a running manager with nothing held
+abbrev pub Begins : Type 0
+Begins = (parts : Parts) (b : Rebuilt) → Rebuilds parts b → Runs [] [] [] parts b
+
+-- and they show each state in which nothing is held
+abbrev pub Quiet : Type 0
+Quiet = (parts : Parts) (b : Rebuilt) (s : State) → Rebuilds parts b → AreQuiet s.lanes → s.doubt ≡ None → RunsState parts b s
+
+-- the samples of the rope that a change brings, none where it brings no rope
+abbrev pub rope_brought : Option (Effect Spot) → Option (List Spot)
+rope_brought (Some (Recorded id samples)) = Some samples
+rope_brought (Some (Edited id samples)) = Some samples
+rope_brought _ = None
+
+-- while nothing else is held a change that brings a rope may be in doubt: the tables show what was rebuilt before it, and the map holds its new blocks besides
+pub record IsDoubted (parts : Parts) (b : Rebuilt) (c : Change) (samples : List Spot) : Type 0 where
+  pub shows : Shows [] parts b.kept
+  pub places : ShowsPlaces parts.blocks.holders b.shape.blocks (b.places ++ new_places c)
+  pub in_form : parts.form ≡ b.form
+  pub valid : IsRebuilt plain_sample b
+  pub placed : IsPlaced b
+  pub used : AllUsed b
+  pub legal : is_legal b c ≡ true
+  pub grammar : keeps_grammar c ≡ true
+  pub rope : rope_brought (brings c) ≡ Some samples
+
+-- such tables show each state with this change in doubt in which nothing else is held
+abbrev pub Doubted : Type 0
+Doubted = (parts : Parts) (b : Rebuilt) (s : State) (c : Change) → AreQuiet s.lanes → IsDoubted parts b c (map spot_of (held_by_doubt s.doubt)) → RunsState parts b s
+
+-- each block of a live rope has an address
+abbrev pub Placed : Type 0
+Placed = (held pledged : List (List Piece)) (takings : List ℕ) (parts : Parts) (b : Rebuilt) → Runs held pledged takings parts b → (pair : BlockPair) → has_pair (used_pairs b.kept) pair ≡ true → IsGiven parts.blocks.holders (block_of (File pair.file) pair.index)
+
+-- the tables show what a base spells, whatever else is held
+abbrev pub Spelled : Type 0
+Spelled = (held pledged : List (List Piece)) (takings : List ℕ) (parts : Parts) (b : Rebuilt) → Runs held pledged takings parts b → ShowsUsed parts b
+
+-- of held passages it matters only how many have each block
+abbrev pub Recounted : Type 0
+Recounted = (held others pledged : List (List Piece)) (takings : List ℕ) (parts : Parts) (b : Rebuilt) → ((pair : BlockPair) → uses_in b.shape.block others pair ≡ uses_in b.shape.block held pair) → Runs held pledged takings parts b → Runs others pledged takings parts b
+
+-- a passage of used blocks is held besides, and the map stays
+abbrev pub Played : Type 0
+Played = (held pledged : List (List Piece)) (takings : List ℕ) (old new : Parts) (b : Rebuilt) (passage : List Piece) → Runs held pledged takings old b
+    → ((pair : BlockPair) → has_pair (pairs_at b.shape.block (spots_of passage)) pair ≡ true → has_pair (used_pairs b.kept) pair ≡ true)
+    → Shows (passage ∷ held) new b.kept → new.form ≡ old.form → new.blocks.holders ≡ old.blocks.holders → Runs (passage ∷ held) pledged takings new b
+
+-- what becomes of an address as the blocks that nothing wants any more get free
+abbrev pub while_wanted : List BlockPair → List BlockPair → List ℕ → Option Holder → Option Holder
+while_wanted pairs others takings None = None
+while_wanted pairs others takings (Some h) = cond (is_wanted pairs others takings h.owner h.index) (Some h) None
+
+-- a passage is held no longer, and its blocks that nothing else wants get free
+abbrev pub Released : Type 0
+Released = (held pledged : List (List Piece)) (takings : List ℕ) (old new : Parts) (b : Rebuilt) (passage : List Piece) → Runs (passage ∷ held) pledged takings old b
+    → Shows held new b.kept → new.form ≡ old.form
+    → EachBecomes (while_wanted (used_pairs b.kept) (pairs_in b.shape.block (held ++ pledged)) takings) old.blocks.holders new.blocks.holders → Runs held pledged takings new b
+
+-- the open recording of a lane has taken n more blocks, and those of other lanes none
+pub record HasGrown (lane n : ℕ) (takings more : List ℕ) : Type 0 where
+  pub here : taken more lane ≡ taken takings lane + n
+  pub elsewhere : (other : ℕ) → ¬ (other ≡ lane) → taken more other ≡ taken takings other
+
+-- an open recording takes the lowest free addresses
+abbrev pub Grown : Type 0
+Grown = (held pledged : List (List Piece)) (takings more : List ℕ) (old new : Parts) (b : Rebuilt) (lane n : ℕ) → Runs held pledged takings old b
+    → Shows held new b.kept → new.form ≡ old.form → n ≤ open_in old.blocks.holders → new.blocks.holders ≡ with_taken (Taking lane) (taken takings lane) n old.blocks.holders
+    → HasGrown lane n takings more → Runs held pledged more new b
+
+-- addresses are free or given out
+abbrev pub Divided : Type 0
+Divided = (holders : Holders) → open_in holders + length (given holders) ≡ length holders
+
+-- where no block has two addresses, each block that is given out is counted once
+abbrev pub Counted : Type 0
+Counted = (holders : Holders) → ((a c : ℕ) (h : Holder) → holder_at holders a ≡ Some h → holder_at holders c ≡ Some h → a ≡ c) → distinct (given holders) ≡ given holders
+
+-- where the tables show a state, whatever the bytes of its samples, the addresses that nobody holds and the blocks in use are all blocks
+abbrev pub CountsUsed : Type 0
+CountsUsed = (parts : Parts) (b : Rebuilt) (s : State) (fill : Spot → Tagged) → ((x : Spot) → spot_of (fill x) ≡ x) → durable_by fill b.kept ≡ s.kept → RunsState parts b s → open_in parts.blocks.holders + used s ≡ s.shape.blocks
+
+-- and so the addresses that nobody holds are as many as the free blocks
+abbrev pub CountsFree : Type 0
+CountsFree = (parts : Parts) (b : Rebuilt) (s : State) (fill : Spot → Tagged) → ((x : Spot) → spot_of (fill x) ≡ x) → durable_by fill b.kept ≡ s.kept → RunsState parts b s → open_in parts.blocks.holders ≡ free s
+
+-- all of them
+pub record RunsLaws : Type 0 where
+  pub begins : Begins
+  pub quiet : Quiet
+  pub doubted : Doubted
+  pub placed : Placed
+  pub spelled : Spelled
+  pub recounted : Recounted
+  pub played : Played
+  pub released : Released
+  pub grown : Grown
+  pub divided : Divided
+  pub counted : Counted
+  pub used_blocks : CountsUsed
+  pub free_blocks : CountsFree
