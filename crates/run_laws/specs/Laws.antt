@@ -1,8 +1,10 @@
 -- What a finished run prints is determined: the laws, as statements.
 --     HistoriesAreDetermined      one history of the same lines from one state, but for its moments
 --     Seen      what a run sees beside its disk
+--     IsCalm      no count of faults rose
 --     IsDone      a run that is done, over these files and from these bytes
 --     CalmRunsTellOfNoFault      where no count of faults rose, no entry tells of a fault
+--     GainAlike      two sinks gained the same
 --     RunsPrintAlike      two runs whose entries tell of no fault print the same
 use Rattle.std.specs.Prelude.{ℕ, List, ◌++◌, ◌≡◌, false, Option, Some, None, IsTrue}
 use Rattle.voice_outside.specs.Disk.{Told}
@@ -50,6 +52,7 @@ pub record IsDone (name : List ℕ) (files : Files) (bytes : List ℕ) (old : Se
   pub honest : IsTrue disk.honest
   pub image : disk.bytes ≡ bytes
 
+-- such a run, where no count of faults rose
 pub record CalmRunsTellOfNoFault (old new : Told) : Type 0 where
   pub calm :
       (name : List ℕ) (files : Files) (bytes : List ℕ) (a b : Seen) (history : List Entry)
@@ -61,6 +64,7 @@ pub record GainAlike (had other_had : List ℕ) (contents other_contents : Optio
   pub one : contents ≡ Some (had ++ gained)
   pub other : other_contents ≡ Some (other_had ++ gained)
 
+-- two runs of one script over the same files and from the same bytes, whose entries tell of no fault
 pub record RunsPrintAlike (old new other_old other_new : Told) : Type 0 where
   -- they are the same but for their moments
   pub histories :
