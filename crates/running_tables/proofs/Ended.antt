@@ -1,12 +1,11 @@
 -- The blocks of an open recording become those of a file.
-use Rattle.std.proofs.Common.{◌≡◌, ℕ, ◌<◌, ◌==◌, ◌⊎◌, inl, inr, Bool, true, false, ◌||◌, cond, List, [], ◌∷◌, ◌++◌, Option, Some, None, refl, sym, ◌∙◌, ap, subst, arith}
-use Rattle.std.proofs.lemmas.Bool.{lt-ltb, ltb-true, eqb-true, eq-eqb}
+use Rattle.std.proofs.Common.{◌≡◌, ℕ, ◌<◌, ◌==◌, ◌⊎◌, inl, inr, Bool, true, false, ◌||◌, cond, List, ◌∷◌, ◌++◌, Option, Some, None, refl, sym, ◌∙◌, ap, subst, arith}
+use Rattle.std.proofs.lemmas.Bool.{ltb-true, eqb-true, eq-eqb}
 use Rattle.std.specs.Prelude.{nat_lt}
 use Rattle.voice_units.specs.Spots.{spots_of}
 use Rattle.voice_units.specs.Blocks.{BlockPair, pairs_at, has_pair}
 use Rattle.voice_units.specs.declared.pieces.Piece.{Piece}
-use Rattle.voice_model.specs.Replay.{Placed, used_pairs}
-use Rattle.voice_model.specs.Valid.{Every}
+use Rattle.voice_model.specs.Replay.{used_pairs}
 use Rattle.voice_model.proofs.KeptByChanges.{every-imply}
 use Rattle.voice_blocks.specs.Holders.{Holders, EachBecomes, holder_at, block_of, same_owner, renamed}
 use Rattle.voice_blocks.specs.declared.owner.Owner.{Owner}
@@ -65,23 +64,23 @@ module _ (old new : Holders) (pairs others mine all : List BlockPair) (takings m
 
   only_wanted : (a : ℕ) (h : Holder) → holder_at new a ≡ Some h → is_wanted pairs all more h.owner h.index ≡ true
   only_wanted a h e = elim (was a h e) [
-      inl k ↦ still_wanted h.owner h.index (gives.only a h k.0) k.1
+    | inl k ↦ still_wanted h.owner h.index (gives.only a h k.0) k.1
     | inr r ↦ subst (λ (x : Holder). is_wanted pairs all more x.owner x.index ≡ true) (sym r.is)
-      (or_right (has_pair pairs (pair_of file r.index)) (has_pair all (pair_of file r.index))
-      (alike (pair_of file r.index) ∙ or_left (has_pair mine (pair_of file r.index)) (has_pair others (pair_of file r.index)) (first r.index ∙ gives.only a (block_of (Taking lane) r.index) r.was)))
+        (or_right (has_pair pairs (pair_of file r.index)) (has_pair all (pair_of file r.index))
+        (alike (pair_of file r.index) ∙ or_left (has_pair mine (pair_of file r.index)) (has_pair others (pair_of file r.index)) (first r.index ∙ gives.only a (block_of (Taking lane) r.index) r.was)))
   ]
 
   one_address : (a c : ℕ) (h : Holder) → holder_at new a ≡ Some h → holder_at new c ≡ Some h → a ≡ c
   one_address a c h e k = elim (was a h e) [
-      inl i ↦ elim (was c h k) [
-        inl j ↦ gives.single a c h i.0 j.0
+    | inl i ↦ elim (was c h k) [
+      | inl j ↦ gives.single a c h i.0 j.0
       | inr r ↦ absurd (fresh a r.index (i.0 ∙ ap (λ x. Some x) r.is))
-      ]
+    ]
     | inr q ↦ elim (was c h k) [
-        inl j ↦ absurd (fresh c q.index (j.0 ∙ ap (λ x. Some x) q.is))
+      | inl j ↦ absurd (fresh c q.index (j.0 ∙ ap (λ x. Some x) q.is))
       | inr r ↦ (let same : q.index ≡ r.index = ap (λ (x : Holder). x.index) (sym q.is ∙ r.is) in
-        gives.single a c (block_of (Taking lane) q.index) q.was (r.was ∙ ap (λ n. Some (block_of (Taking lane) n)) (sym same)))
-      ]
+          gives.single a c (block_of (Taking lane) q.index) q.was (r.was ∙ ap (λ n. Some (block_of (Taking lane) n)) (sym same)))
+    ]
   ]
 
   file_stays : (f index : ℕ) → IsGiven old (block_of (File f) index) → IsGiven new (block_of (File f) index)
