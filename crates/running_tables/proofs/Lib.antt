@@ -8,3 +8,4 @@ pub mod Recounted
 pub mod Doubted
 pub mod Steps
 pub mod Grown
+pub mod Ended

@@ -7,10 +7,11 @@
 --     Recounted      only how often each block is held matters, and not in which order
 --     Played, Released      a passage is held besides;  a passage is held no longer
 --     HasGrown lane n takings more, Grown      an open recording has taken n more blocks;  it takes them
+--     HasEnded lane takings more, HasFirst block file n pieces, Ended      an open recording has no block any more;  pieces have the first blocks of a file;  its blocks become those of a file
 --     while_wanted pairs others takings      what becomes of an address as the blocks that nothing wants get free
 --     Divided, Counted      how many addresses are free and given out
 --     CountsUsed, CountsFree      how many are those of used blocks, and how many are free, by the state
-use Rattle.std.specs.Prelude.{◌≡◌, ℕ, ◌+◌, ◌≤◌, true, cond, List, [], ◌∷◌, ◌++◌, map, length, replicate, Option, Some, None}
+use Rattle.std.specs.Prelude.{◌≡◌, ℕ, ◌+◌, ◌≤◌, true, cond, nat_lt, List, [], ◌∷◌, ◌++◌, map, length, replicate, Option, Some, None}
 use Rattle.voice_units.specs.Blocks.{BlockPair, has_pair, pairs_at, distinct}
 use Rattle.voice_units.specs.Spots.{Spot, spots_of}
 use Rattle.voice_units.specs.declared.pieces.Piece.{Piece}
@@ -23,10 +24,10 @@ use Rattle.voice_model.specs.Valid.{IsRebuilt}
 use Rattle.voice_model.specs.Places.{IsPlaced, AllUsed}
 use Rattle.voice_model.specs.Room.{free, used, held_by_doubt}
 use Rattle.voice_model.specs.declared.changes.Change.{Change}
-use Rattle.voice_blocks.specs.Holders.{Holders, EachBecomes, holder_at, open_in, block_of, with_taken}
+use Rattle.voice_blocks.specs.Holders.{Holders, EachBecomes, holder_at, open_in, block_of, with_taken, renamed}
 use Rattle.voice_blocks.specs.declared.owner.Owner.TheVariants.{File, Taking}
 use Rattle.voice_blocks.specs.declared.owner.Holder.{Holder}
-use Rattle.rope_table.specs.Table.{uses_in, pairs_in}
+use Rattle.rope_table.specs.Table.{uses_in, pairs_in, pair_of}
 use Rattle.recovery.specs.declared.parts.Parts.{Parts}
 use Rattle.recovery.specs.Shown.{Shows, ShowsPlaces, Rebuilds, plain_sample}
 use Rattle.checkpoint.specs.Compact.{ShowsUsed}
@@ -106,6 +107,23 @@ Grown = (held pledged : List (List Piece)) (takings more : List ℕ) (old new : 
     → Shows held new b.kept → new.form ≡ old.form → n ≤ open_in old.blocks.holders → new.blocks.holders ≡ with_taken (Taking lane) (taken takings lane) n old.blocks.holders
     → HasGrown lane n takings more → Runs held pledged more new b
 
+-- the open recording of a lane has no block any more, and those of other lanes have what they had
+pub record HasEnded (lane : ℕ) (takings more : List ℕ) : Type 0 where
+  pub here : taken more lane ≡ 0
+  pub elsewhere : (other : ℕ) → ¬ (other ≡ lane) → taken more other ≡ taken takings other
+
+-- these pieces have just the first n blocks of a file
+pub record HasFirst (block file n : ℕ) (pieces : List Piece) : Type 0 where
+  pub each : (index : ℕ) → has_pair (pairs_at block (spots_of pieces)) (pair_of file index) ≡ nat_lt index n
+  pub of_file : (pair : BlockPair) → has_pair (pairs_at block (spots_of pieces)) pair ≡ true → pair.file ≡ file
+
+-- the blocks of an open recording become those of a new file, whose pieces are pledged
+abbrev pub Ended : Type 0
+Ended = (held pledged : List (List Piece)) (takings more : List ℕ) (old new : Parts) (b : Rebuilt) (lane file : ℕ) (pieces : List Piece) → Runs held pledged takings old b
+    → Shows held new b.kept → new.form ≡ old.form → EachBecomes (renamed lane file) old.blocks.holders new.blocks.holders
+    → ((a index : ℕ) → ¬ (holder_at old.blocks.holders a ≡ Some (block_of (File file) index)))
+    → HasFirst b.shape.block file (taken takings lane) pieces → HasEnded lane takings more → Runs held (pieces ∷ pledged) more new b
+
 -- addresses are free or given out
 abbrev pub Divided : Type 0
 Divided = (holders : Holders) → open_in holders + length (given holders) ≡ length holders
@@ -133,6 +151,7 @@ pub record RunsLaws : Type 0 where
   pub played : Played
   pub released : Released
   pub grown : Grown
+  pub ended : Ended
   pub divided : Divided
   pub counted : Counted
   pub used_blocks : CountsUsed

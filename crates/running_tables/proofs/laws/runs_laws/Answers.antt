@@ -6,6 +6,7 @@ use Rattle.running_tables.proofs.Doubted.{doubted}
 use Rattle.running_tables.proofs.Recounted.{recounted}
 use Rattle.running_tables.proofs.Steps.{played, released}
 use Rattle.running_tables.proofs.Grown.{grown}
+use Rattle.running_tables.proofs.Ended.{ended}
 use Rattle.running_tables.proofs.laws.runs_laws.Goals as goal
 
 pub returns : goal.returns
@@ -19,6 +20,7 @@ returns c = record {
   played = played;
   released = released;
   grown = grown;
+  ended = ended;
   divided = divided;
   counted = each_once;
   used_blocks = counts_used;
