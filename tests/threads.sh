@@ -50,7 +50,7 @@ expect 'and all their ropes are there' [ "$(voice run lengths.vs | grep -c 'numb
 
 # Killed at twenty moments: each time the disk opens, all ropes below the next number are there, and the number never falls.
 printf '1 record hello.ul\n' >"$work/next.vs"
-voice format --area 4194304
+voice format --blocks 1000 --area 4194304
 last=0
 whole=yes
 for k in $(seq 1 20); do
