@@ -1,4 +1,4 @@
-use Rattle.std.proofs.Common.{◌≡◌, ℕ, ◌+◌, ◌*◌, ◌<◌, ◌≤◌, ◌^◌, List, [], ◌∷◌, length, map, replicate, sym, ◌∙◌, ap, arith, refl, take, drop, sum_by}
+use Rattle.std.proofs.Common.{◌≡◌, ℕ, ◌+◌, ◌*◌, ◌<◌, ◌≤◌, ◌^◌, List, [], ◌∷◌, length, map, replicate, sym, ◌∙◌, ap, arith, refl, take, drop, sum_by, length-take, slice_range}
 use Rattle.std.proofs.lemmas.Simd.{zip2_splat, zip2_splat_left, map-map}
 use Rattle.std.specs.Simd.Lanes.{Each1, zip2, sum_l, sel_l}
 use Rattle.std.specs.Prelude.{nat_lt, max}
@@ -6,7 +6,7 @@ use Rattle.std.proofs.Common.{cond}
 use Rattle.std.specs.List.{slice_range}
 use Rattle.std.proofs.lemmas.List.Sums.{sum_by-append, sum_by-take-le, sum_by-cons}
 use Rattle.std.proofs.Math.Seq.{take-add}
-use Rattle.std.proofs.lemmas.List.{length-map}
+use Rattle.std.proofs.lemmas.List.{length-map, drop-drop}
 use Rattle.voice_model.specs.Talk.{loud}
 
 pub map_each : (f g : ℕ → ℕ) (xs : List ℕ) → Each1 (λ x. f x ≡ g x) xs → map f xs ≡ map g xs
@@ -51,3 +51,13 @@ sel_max (x ∷ xs) [] = refl
 sel_max (x ∷ xs) (y ∷ ys) =
     let one : cond (nat_lt x y) y x ≡ max x y = grind arith in
     ap (λ z. z ∷ sel_l (zip2 nat_lt xs ys) ys xs) one ∙ ap (λ zs. max x y ∷ zs) (sel_max xs ys)
+
+-- so few bytes have a loudness that fits
+pub taken_small : (bs : List ℕ) (k : ℕ) → k ≤ 160 → sum_by loud (take k bs) ≤ 2 ^ 31
+taken_small bs k h = omega (arith, loud_bound (take k bs), length-take k bs, h)
+
+-- a step of `blocks_loud` over a block of lanes
+pub block_added : (bs block : List ℕ) (at done sums next : ℕ) → sums ≡ sum_by loud (take done (drop at bs)) → block ≡ map loud (slice_range bs (at + done) (at + done + 32)) → next ≡ sums + sum_l block → next ≡ sum_by loud (take (done + 32) (drop at bs))
+block_added bs block at done sums next e f g =
+    let one : sum_l block ≡ sum_by loud (take 32 (drop done (drop at bs))) = ap sum_l f ∙ (sum_l-loud (slice_range bs (at + done) (at + done + 32)) ∙ (ranged bs (at + done) 32 ∙ ap (λ xs. sum_by loud (take 32 xs)) (sym (drop-drop done at bs)))) in
+    g ∙ more (drop at bs) done 32 sums (sum_l block) e one

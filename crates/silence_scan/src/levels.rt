@@ -4,14 +4,11 @@ ghost use Rattle.std.specs.Prelude.{◌≡◌, ◌+◌, ◌-◌, ◌≤◌, ◌<
 ghost use Rattle.voice_model.specs.Talk.{peaks};
 ghost use Rattle.silence_scan.specs.Levels.{HasHeard};
 
-use super::loudness::peak;
+use super::loudness::{WINDOW, peak};
 use std::alloc::Global;
 use std::marker::Model;
 use voice_model::PeakList;
 use voice_units::NoMemory;
-
-// The samples of a whole window.
-const WINDOW: usize = 160;
 
 /// Finds the greatest loudness in each window of 160 bytes, however the bytes are cut into pieces. Once memory was wanting it is spent.
 #[derive(Drop)]

@@ -1,11 +1,14 @@
 //! The loudness of mu-law bytes, 32 at a time.
 
-ghost use Rattle.std.specs.Prelude.{◌≡◌, ◌≤◌, ◌+◌, ◌^◌, ℕ, length, map, slice_range, sum_by, max};
+ghost use Rattle.std.specs.Prelude.{◌≡◌, ◌≤◌, ◌+◌, ◌%◌, ◌^◌, ℕ, length, map, slice_range, sum_by, max};
 ghost use Rattle.std.specs.Simd.Lanes.{sum_l, zip2};
 ghost use Rattle.voice_model.specs.Talk.{loud, peak};
 ghost use Rattle.silence_scan.specs.Greatest.{greatest};
 
 use std::simd::prelude::*;
+
+// The samples of a whole window: so many are summed in lanes before these are put together.
+pub(crate) const WINDOW: usize = 160;
 
 fn loud_lanes(v: u8x32) -> u8x32
     ensures { result ≡ map loud v }
@@ -13,19 +16,43 @@ fn loud_lanes(v: u8x32) -> u8x32
     u8x32::splat(127) - (v & u8x32::splat(127))
 }
 
-// The sum is made in lanes of 32 bits, so it cannot wrap.
-fn sum_lanes(v: u8x32) -> u32
-    ensures { result ≡ sum_l v }
+fn block_lanes(bytes: &[u8], at: usize) -> u8x32
+    requires { at + 32 ≤ length bytes.now }
+    ensures { result ≡ map loud (slice_range bytes.now at (at + 32)) }
 {
-    v.dot4(u8x32::splat(1)).strict_reduce_sum()
+    loud_lanes(u8x32::from_slice(&bytes[at..]))
 }
 
-fn block_loud(bytes: &[u8], at: usize) -> u32
-    requires { at + 32 ≤ length bytes.now }
-    ensures { result ≡ sum_by loud (slice_range bytes.now at (at + 32)) }
+// Each lane of 32 bits gains the sum of four bytes.
+fn add_lanes(sums: u32x8, v: u8x32) -> u32x8
+    requires { sum_l sums ≤ 2 ^ 31 }
+    ensures { sum_l result ≡ sum_l sums + sum_l v }
 {
-    let v = u8x32::from_slice(&bytes[at..]);
-    sum_lanes(loud_lanes(v))
+    sums.strict_add(v.dot4(u8x32::splat(1)))
+}
+
+// The lanes together.
+fn reduced(sums: u32x8) -> u32
+    requires { sum_l sums ≤ 2 ^ 31 }
+    ensures { result ≡ sum_l sums }
+{
+    sums.strict_reduce_sum()
+}
+
+// The loudness of n bytes, a multiple of 32, from a place on: a sum in lanes, which are put together once.
+fn blocks_loud(bytes: &[u8], at: usize, n: usize) -> u32
+    requires whole { n % 32 ≡ 0 }
+    requires short { n ≤ 160 }
+    requires within { at + n ≤ length bytes.now }
+    ensures { result ≡ sum_by loud (slice_range bytes.now at (at + n)) }
+{
+    let mut sums = u32x8::splat(0);
+    let mut done = 0;
+    'lanes: while done < n {
+        sums = add_lanes(sums, block_lanes(bytes, at + done));
+        done += 32;
+    }
+    reduced(sums)
 }
 
 fn byte_loud(b: u8) -> u8
@@ -41,9 +68,10 @@ pub fn loud_sum(bytes: &[u8]) -> u64
 {
     let mut total = 0u64;
     let mut at = 0;
-    'whole: while bytes.len() - at >= 32 {
-        total += u64::from(block_loud(bytes, at));
-        at += 32;
+    'windows: while bytes.len() - at >= 32 {
+        let n = ((bytes.len() - at) / 32 * 32).min(WINDOW);
+        total += u64::from(blocks_loud(bytes, at, n));
+        at += n;
     }
     'ends: while at < bytes.len() {
         total += u64::from(byte_loud(bytes[at]));
@@ -67,13 +95,6 @@ fn max_of_lanes(v: u8x32) -> u8
         most = most.max(*x);
     }
     most
-}
-
-fn block_lanes(bytes: &[u8], at: usize) -> u8x32
-    requires { at + 32 ≤ length bytes.now }
-    ensures { result ≡ map loud (slice_range bytes.now at (at + 32)) }
-{
-    loud_lanes(u8x32::from_slice(&bytes[at..]))
 }
 
 /// The greatest loudness of a byte, 0 to 127; 0 of none. It takes no memory.
