@@ -32,9 +32,6 @@ not_behind_it at id x y when is h = ap₂ (λ m n. is_due_before m n y) (sym whe
 pub lower_through : (x y z : Rope) → is_lower x y ≡ true → is_lower y z ≡ true → is_lower x z ≡ true
 lower_through x y z h k = lt-ltb x.id z.id (omega (arith, ltb-true x.id y.id h, ltb-true y.id z.id k))
 
-pub lower_self : (x : Rope) → is_lower x x ≡ false
-lower_self x = le-ltb x.id x.id (omega arith)
-
 pub lower_apart : (x y : Rope) → (x.id ≡ y.id → ⊥) → is_lower y x ≡ not (is_lower x y)
 lower_apart x y h = split (nat_lt x.id y.id)
     (λ e. le-ltb y.id x.id (omega (arith, ltb-true x.id y.id e)) ∙ ap not (sym e))

@@ -1,42 +1,35 @@
 -- What becomes of the ropes, and of the order in which they are due, as one rope comes, goes or changes.
-use Rattle.std.proofs.Common.{◌≡◌, ℕ, zero, suc, ◌+◌, ◌<◌, ◌≤◌, List, [], ◌∷◌, length, map, get_or, Bool, true, false, not, ◌==◌, cond, nat_lt, Option, Some, None, refl, sym, ◌∙◌, ap, subst, arith}
+use Rattle.std.proofs.Common.{◌≡◌, ℕ, zero, suc, ◌+◌, ◌<◌, ◌≤◌, List, [], ◌∷◌, length, map, Bool, true, false, not, ◌==◌, cond, nat_lt, Option, Some, None, refl, sym, ◌∙◌, ap, subst, arith}
 use Rattle.std.proofs.lemmas.Bool.{cond_both, false≢true, ltb-true, ltb-false, le-ltb, eqb-true, eqb-false, eq-eqb, ne_eqb}
-use Rattle.std.specs.List.{remove}
-use Rattle.std.specs.Prelude.{slice_get, slice_set, IsSome, IfSome, IfNone, OnSome, ◌↔◌, Result, Ok, Err, OnOk, OnErr}
+use Rattle.std.proofs.lemmas.Option.{slice_get_within}
+use Rattle.std.proofs.lemmas.List.Edits.{length-remove}
+use Rattle.std.specs.List.{insert, remove}
+use Rattle.std.specs.Prelude.{slice_get, IsSome, OnSome, IsOk, Result, Ok, Err, OnOk}
 use Rattle.voice_units.specs.Blocks.{BlockPair}
 use Rattle.rope_table.specs.declared.ropes.Rope.{Rope}
 use Rattle.rope_table.specs.declared.dues.Due.{Due}
 use Rattle.rope_table.specs.Table.{is_sooner, is_lower, Every, IsInOrder, rope_of, with_rope, without_rope, with_due, due_of, index_of, uses_by, uses_in, pieces_in}
 use Rattle.rope_table.specs.Inside.{lies_below, place_of, IsAt}
-use Rattle.rope_table.proofs.InOrder.{split, in_order-remove, every_put, every_imp, put_swap, length-put, Apart}
+use Rattle.rope_table.proofs.InOrder.{split, every_put, every_imp, put_swap, length-put, Apart}
 use Rattle.rope_table.proofs.ById.{changed, map_none, without_none, none_behind, not_here, place_more, place_none, if_id, rope_at_place, lower_apart, sooner_apart, sooner_through}
 
 -- ---- places
-
-pub get_is : {A : Type 0} (xs : List A) (i : ℕ) (x : A) → i < length xs → x ≡ get_or xs i x → slice_get xs i ≡ Some x
-get_is [] i x within e = absurd (omega arith)
-get_is (y ∷ ys) zero x within e = ap Some (sym e)
-get_is (y ∷ ys) (suc i) x within e = get_is ys i x (omega arith) e
-
-pub beyond_if : (i n : ℕ) → (i < n → false ≡ true) → n ≤ i
-beyond_if i n h = split (nat_lt i n) (λ e. absurd (false≢true (h (ltb-true i n e)))) (λ e. ltb-false i n e)
-
-pub get_none : {A : Type 0} (xs : List A) (i : ℕ) → length xs ≤ i → ◌≡◌ {A = Option A} (slice_get xs i) None
-get_none [] i beyond = refl
-get_none (y ∷ ys) zero beyond = absurd (omega arith)
-get_none (y ∷ ys) (suc i) beyond = get_none ys i (omega arith)
 
 -- the rope of another number stands at the place of a number that is not live
 pub not_live : (id : ℕ) (ropes : List Rope) (rope : Rope) → IsInOrder is_lower ropes → slice_get ropes (place_of (lies_below id) ropes) ≡ Some rope → (rope.id ≡ id → ⊥) → rope_of ropes id ≡ None
 not_live id ropes rope order at other = rope_at_place id ropes order ∙ ap (if_id id) at ∙ ap (λ b. cond b (Some rope) None) (ne_eqb rope.id id other)
 
-pub live_at : (id i : ℕ) (ropes : List Rope) (rope : Rope) → IsInOrder is_lower ropes → i ≡ place_of (lies_below id) ropes → i < length ropes → slice_get ropes i ≡ Some rope → rope.id ≡ id → IsAt ropes id i
-live_at id i ropes rope order place within at same =
+pub live_at : (id i : ℕ) (ropes : List Rope) (rope : Rope) → IsInOrder is_lower ropes → i ≡ place_of (lies_below id) ropes → slice_get ropes i ≡ Some rope → rope.id ≡ id → IsAt ropes id i
+live_at id i ropes rope order place at same =
     let found : rope_of ropes id ≡ Some rope = rope_at_place id ropes order ∙ ap (λ k. if_id id (slice_get ropes k)) (sym place) ∙ ap (if_id id) at ∙ ap (λ b. cond b (Some rope) None) (eq-eqb rope.id id same) in
-    record { within = within; place = place; found = at ∙ sym found; some = subst IsSome (sym found) refl }
+    record { within = slice_get_within ropes i rope at; place = place; found = at ∙ sym found; some = subst IsSome (sym found) refl }
 
-pub beyond_all : (id i : ℕ) (ropes : List Rope) → IsInOrder is_lower ropes → i ≡ place_of (lies_below id) ropes → length ropes ≤ i → rope_of ropes id ≡ None
-beyond_all id i ropes order place beyond = rope_at_place id ropes order ∙ ap (λ k. if_id id (slice_get ropes k)) (sym place) ∙ ap (if_id id) (get_none ropes i beyond)
+-- no rope stands at the place of a number that is above all others
+pub beyond_all : (id i : ℕ) (ropes : List Rope) → IsInOrder is_lower ropes → i ≡ place_of (lies_below id) ropes → slice_get ropes i ≡ None → rope_of ropes id ≡ None
+beyond_all id i ropes order place none = rope_at_place id ropes order ∙ ap (λ k. if_id id (slice_get ropes k)) (sym place) ∙ ap (if_id id) none
+
+pub none_stands : (id i : ℕ) (ropes : List Rope) → IsAt ropes id i → ◌≡◌ {A = Option Rope} (slice_get ropes i) None → ⊥
+none_stands id i ropes at none = false≢true (subst IsSome (sym at.found ∙ none) at.some)
 
 -- ---- the rope of a number changes, or goes
 
@@ -52,19 +45,19 @@ three a b less same more = split (nat_lt a b) (λ e. less (ltb-true a b e)) (λ 
 no_rope : {P : Type 0} (rope : Rope) (o : Option Rope) → o ≡ Some rope → o ≡ None → P
 no_rope rope o e f = cc
 
-pub map_at : (id : ℕ) (g : Rope → Rope) (ropes : List Rope) (rope : Rope) → IsInOrder is_lower ropes → rope_of ropes id ≡ Some rope → map (changed id g) ropes ≡ slice_set ropes (place_of (lies_below id) ropes) (g rope)
+pub map_at : (id : ℕ) (g : Rope → Rope) (ropes : List Rope) (rope : Rope) → IsInOrder is_lower ropes → rope_of ropes id ≡ Some rope → map (changed id g) ropes ≡ insert (remove ropes (place_of (lies_below id) ropes)) (place_of (lies_below id) ropes) (g rope)
 map_at id g [] rope order found = cc
 map_at id g (r ∷ ropes) rope order found =
     three r.id id
     (λ less.
     ap (λ b. cond b (g r) r ∷ map (changed id g) ropes) (ne_eqb r.id id (λ e. omega (arith, e, less)))
     ∙ ap (λ l. r ∷ l) (map_at id g ropes rope order.1 (sym (not_here id r ropes (λ e. omega (arith, e, less))) ∙ found))
-    ∙ sym (ap (λ i. slice_set (r ∷ ropes) i (g rope)) (place_more id r ropes less)))
+    ∙ sym (ap (λ i. insert (remove (r ∷ ropes) i) i (g rope)) (place_more id r ropes less)))
     (λ same.
     ap (λ b. cond b (g r) r ∷ map (changed id g) ropes) (eq-eqb r.id id same)
     ∙ ap (λ l. g r ∷ l) (map_none id g ropes (none_behind id r ropes (omega (arith, same)) order.0))
     ∙ ap (λ q. g q ∷ ropes) (one_of r rope (sym (here id r ropes same) ∙ found))
-    ∙ sym (ap (λ i. slice_set (r ∷ ropes) i (g rope)) (place_none id r ropes (omega (arith, same)))))
+    ∙ sym (ap (λ i. insert (remove (r ∷ ropes) i) i (g rope)) (place_none id r ropes (omega (arith, same)))))
     (λ more. no_rope rope (rope_of ropes id) (sym (not_here id r ropes (λ e. omega (arith, e, more))) ∙ found) (none_behind id r ropes (omega (arith, more)) order.0))
 
 abbrev kept_front : ℕ → Rope → List Rope → Bool → List Rope
@@ -84,13 +77,10 @@ without_at id (r ∷ ropes) rope order found =
     ∙ sym (ap (remove (r ∷ ropes)) (place_none id r ropes (omega (arith, same)))))
     (λ more. no_rope rope (rope_of ropes id) (sym (not_here id r ropes (λ e. omega (arith, e, more))) ∙ found) (none_behind id r ropes (omega (arith, more)) order.0))
 
-found_at : (id i : ℕ) (ropes : List Rope) (rope : Rope) → IsAt ropes id i → rope ≡ get_or ropes i rope → rope_of ropes id ≡ Some rope
-found_at id i ropes rope at e = sym at.found ∙ get_is ropes i rope at.within e
-
--- writing at the place of a number changes its rope
-pub set_is_map : (id i : ℕ) (g : Rope → Rope) (ropes : List Rope) (rope : Rope) → IsInOrder is_lower ropes → IsAt ropes id i → rope ≡ get_or ropes i rope → slice_set ropes i (g rope) ≡ map (changed id g) ropes
-set_is_map id i g ropes rope order at e =
-    ap (λ k. slice_set ropes k (g rope)) at.place ∙ sym (map_at id g ropes rope order (found_at id i ropes rope at e))
+-- what goes from the place of a number and comes back changed changes its rope
+pub put_back : (id i : ℕ) (g : Rope → Rope) (ropes : List Rope) (rope : Rope) → IsInOrder is_lower ropes → IsAt ropes id i → slice_get ropes i ≡ Some rope → insert (remove ropes i) i (g rope) ≡ map (changed id g) ropes
+put_back id i g ropes rope order at e =
+    ap (λ k. insert (remove ropes k) k (g rope)) at.place ∙ sym (map_at id g ropes rope order (sym at.found ∙ e))
 
 without_found : (id i : ℕ) (ropes : List Rope) (o : Option Rope) → IsInOrder is_lower ropes → IsAt ropes id i → rope_of ropes id ≡ o → IsSome o → remove ropes i ≡ without_rope id ropes
 without_found id i ropes None order at e some = cc
@@ -100,23 +90,20 @@ pub remove_is_without : (id i : ℕ) (ropes : List Rope) → IsInOrder is_lower 
 remove_is_without id i ropes order at = without_found id i ropes (rope_of ropes id) order at refl at.some
 
 -- an insertion with room succeeds
-pub ok_part : {T E P : Type 0} (r : Result T E) (n m : ℕ) → OnOk r P → OnErr r (m ≤ n) → n < m → P
-ok_part (Ok v) n m p full room = p
-ok_part (Err e) n m p full room = absurd (omega arith)
+pub ok_part : {T E P : Type 0} (r : Result T E) → OnOk r P → IsOk r → P
+ok_part (Ok v) p ok = p
+ok_part (Err e) p ok = absurd (false≢true ok)
 
--- what a removal gives
-pub removed : (xs : List Rope) (i n : ℕ) (r : Option Rope) → (IsSome r ↔ (i < n)) → IfSome r (λ y. y ≡ get_or xs i y) → i < n → n ≡ length xs → r ≡ slice_get xs i
-removed xs i n None h v within e = absurd (false≢true (h.1 within))
-removed xs i n (Some y) h v within e = sym (get_is xs i y (omega arith) v)
+none_goes : {A : Type 0} (xs : List A) (i : ℕ) → ◌≡◌ {A = Option A} (slice_get xs i) None → remove xs i ≡ xs
+none_goes [] zero e = refl
+none_goes [] (suc i) e = refl
+none_goes (x ∷ xs) zero e = cc
+none_goes (x ∷ xs) (suc i) e = ap (λ l. x ∷ l) (none_goes xs i e)
 
-pub some_part : {A : Type 0} {P : Type 0} (r : Option A) (i n : ℕ) → (IsSome r ↔ (i < n)) → OnSome r P → i < n → P
-some_part None i n h p within = absurd (false≢true (h.1 within))
-some_part (Some y) i n h p within = p
-
--- whether one was removed or not, the rest is in order
-pub order_left : {P : Type 0} (xs ys : List Due) (i : ℕ) (r : Option Due) → OnSome r (ys ≡ remove xs i) → IfNone r P → (P → ys ≡ xs) → IsInOrder is_sooner xs → IsInOrder is_sooner ys
-order_left xs ys i None p q f order = subst (λ (l : List Due). IsInOrder is_sooner l) (sym (f q)) order
-order_left xs ys i (Some due) p q f order = subst (λ (l : List Due). IsInOrder is_sooner l) (sym p) (in_order-remove is_sooner xs i order)
+-- the room of what goes stays
+pub room_left : {A : Type 0} (xs : List A) (i spare more : ℕ) (r : Option A) → r ≡ slice_get xs i → spare ≤ more → OnSome r (more ≡ spare + 1) → length xs + spare ≤ length (remove xs i) + more
+room_left xs i spare more None at kept gained = let same = ap length (none_goes xs i (sym at)) in omega (arith, same)
+room_left xs i spare more (Some x) at kept gained = let one = length-remove xs i (slice_get_within xs i x (sym at)) in omega (arith, one, gained)
 
 put_front : (rope : Rope) (ropes : List Rope) → Every (λ other. is_lower rope other ≡ true) ropes → with_rope rope ropes ≡ rope ∷ ropes
 put_front rope [] all = refl

@@ -1,8 +1,8 @@
 -- Lists in order: where an element belongs, and what is left as it goes.
-use Rattle.std.proofs.Common.{◌≡◌, ℕ, zero, suc, ◌-◌, ◌<◌, ◌≤◌, List, [], ◌∷◌, length, get_or, Bool, true, false, not, cond, refl, sym, ◌∙◌, ap, subst, eq-or-lt_of_le, inl, inr, arith}
+use Rattle.std.proofs.Common.{◌≡◌, ℕ, zero, suc, ◌-◌, ◌<◌, ◌≤◌, List, [], ◌∷◌, length, get_or, Bool, true, false, not, cond, Some, refl, sym, ◌∙◌, ap, subst, eq-or-lt_of_le, inl, inr, arith}
 use Rattle.std.proofs.lemmas.Bool.{cond_both, false≢true}
-use Rattle.std.proofs.lemmas.List.{get_or_read_under}
-use Rattle.std.specs.List.{insert, remove}
+use Rattle.std.proofs.lemmas.Option.{get_or_from_slice_get, slice_get_within}
+use Rattle.std.specs.List.{slice_get, insert, remove}
 use Rattle.std.specs.List.Sorted.{IsPartitionPoint, IsPartitionedBy}
 use Rattle.rope_table.specs.Table.{Every, IsInOrder, put_in}
 use Rattle.rope_table.specs.Inside.{place_of}
@@ -89,14 +89,6 @@ module _ {A : Type 0} (comes : A → A → Bool) where
       cond_both (comes x y) (x ∷ y ∷ ys) (y ∷ put_in comes x ys) (λ l. length l ≡ suc (length (y ∷ ys)))
       (λ e. refl) (λ e. ap suc (length-put x ys))
 
-  -- the place of what was put in is one of the list
-  pub place_within : (x : A) (xs : List A) → comes x x ≡ false → Apart x xs → place_of (λ y. comes y x) (put_in comes x xs) < length (put_in comes x xs)
-  place_within x [] self apart = let e = place_here (λ z. comes z x) x [] self in omega (arith, e)
-  place_within x (y ∷ ys) self apart =
-      cond_both (comes x y) (x ∷ y ∷ ys) (y ∷ put_in comes x ys) (λ l. place_of (λ z. comes z x) l < length l)
-      (λ e. let h = place_here (λ z. comes z x) x (y ∷ ys) self in omega (arith, h))
-      (λ e. let i = place_within x ys self apart.1 in let h = place_later (λ z. comes z x) y (put_in comes x ys) (goes_behind (comes x y) (comes y x) apart.0 e) in omega (arith, h, i))
-
   put_here : (x y : A) (ys : List A) → comes x y ≡ true → put_in comes x (y ∷ ys) ≡ x ∷ y ∷ ys
   put_here x y ys e = ap (λ b. cond b (x ∷ y ∷ ys) (y ∷ put_in comes x ys)) e
 
@@ -165,9 +157,9 @@ partitioned comes test down [] order = λ i j d le within e. absurd (omega arith
 partitioned comes test down (x ∷ xs) order = partitioned_at comes test down x xs order (partitioned comes test down xs order.1)
 
 -- where the last element passes, all of them do
-pub place_behind : {A : Type 0} (comes : A → A → Bool) (test : A → Bool) → ((x y : A) → comes x y ≡ true → test y ≡ true → test x ≡ true) → (xs : List A) (n : ℕ) (x : A) → IsInOrder comes xs → n ≡ length xs → 0 < n → x ≡ get_or xs (n - 1) x → test x ≡ true → n ≡ place_of test xs
+pub place_behind : {A : Type 0} (comes : A → A → Bool) (test : A → Bool) → ((x y : A) → comes x y ≡ true → test y ≡ true → test x ≡ true) → (xs : List A) (n : ℕ) (x : A) → IsInOrder comes xs → n ≡ length xs → 0 < n → slice_get xs (n - 1) ≡ Some x → test x ≡ true → n ≡ place_of test xs
 place_behind comes test down xs n x order count some read passes = at_partition test xs n (omega (arith, count))
-    (λ k d low high. partitioned comes test down xs order k (n - 1) d (omega (arith, high)) (omega (arith, count, some)) (ap test (sym (get_or_read_under xs (n - 1) n x d read (omega (arith, some)) count)) ∙ passes), λ k d low high. absurd (omega (arith, count, low, high)))
+    (λ k d low high. partitioned comes test down xs order k (n - 1) d (omega (arith, high)) (omega (arith, count, some)) (ap test (get_or_from_slice_get xs (n - 1) x d read) ∙ passes), λ k d low high. absurd (omega (arith, count, low, high)))
 
 -- of two places the front one has what comes first
 pub in_order_at : {A : Type 0} (comes : A → A → Bool) (xs : List A) (j k : ℕ) (d : A) → IsInOrder comes xs → j < k → k < length xs → comes (get_or xs j d) (get_or xs k d) ≡ true
@@ -181,11 +173,13 @@ split_le : (i k : ℕ) (P : ℕ → Type 0) → i ≤ k → P i → (i < k → P
 split_le i k P low here later = elim (eq-or-lt_of_le low) [ inl same ↦ subst P same here | inr less ↦ later less ]
 
 -- an element that fails stands where those end that pass, if just those before it pass
-pub place_at : {A : Type 0} (comes : A → A → Bool) (test : A → Bool) (xs : List A) (i n : ℕ) (x : A) → IsInOrder comes xs → n ≡ length xs → i < n → x ≡ get_or xs i x → test x ≡ false
+pub place_at : {A : Type 0} (comes : A → A → Bool) (test : A → Bool) (xs : List A) (i : ℕ) (x : A) → IsInOrder comes xs → slice_get xs i ≡ Some x → test x ≡ false
     → ((y : A) → comes y x ≡ true → test y ≡ true) → ((y : A) → comes x y ≡ true → test y ≡ false) → i ≡ place_of test xs
-place_at comes test xs i n x order count within read fails before behind = at_partition test xs i (omega (arith, count, within)) (
-  λ k d low high. let at : x ≡ get_or xs i d = get_or_read_under xs i n x d read within count in
-      before (get_or xs k d) (subst (λ y. comes (get_or xs k d) y ≡ true) (sym at) (in_order_at comes xs k i d order high (omega (arith, count, within)))),
-  λ k d low high. let at : x ≡ get_or xs i d = get_or_read_under xs i n x d read within count in
-      split_le i k (λ m. test (get_or xs m d) ≡ false) low (ap test (sym at) ∙ fails) (λ less. behind (get_or xs k d) (subst (λ y. comes y (get_or xs k d) ≡ true) (sym at) (in_order_at comes xs i k d order less high))),
-)
+place_at comes test xs i x order read fails before behind =
+    let within : i < length xs = slice_get_within xs i x read in
+    at_partition test xs i (omega (arith, within)) (
+      λ k d low high. let at : x ≡ get_or xs i d = sym (get_or_from_slice_get xs i x d read) in
+          before (get_or xs k d) (subst (λ y. comes (get_or xs k d) y ≡ true) (sym at) (in_order_at comes xs k i d order high within)),
+      λ k d low high. let at : x ≡ get_or xs i d = sym (get_or_from_slice_get xs i x d read) in
+          split_le i k (λ m. test (get_or xs m d) ≡ false) low (ap test (sym at) ∙ fails) (λ less. behind (get_or xs k d) (subst (λ y. comes y (get_or xs k d) ≡ true) (sym at) (in_order_at comes xs i k d order less high))),
+    )

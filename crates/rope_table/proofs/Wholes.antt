@@ -128,7 +128,7 @@ counts_without r r' d d' u u' id rope held order found is block uses h = λ q.
     omega (arith, now, was, live, rest, parts)
 
 pub whole_without : (r r' : Ropes) (d d' : Dues) (u u' : Uses) (id : ℕ) (rope : Rope) → IsWhole r d u → rope_of r.ropes id ≡ Some rope
-    → r'.ropes ≡ without_rope id r.ropes → d'.dues ≡ index_of (without_rope id r.ropes) → d'.room ≡ d.room → u'.block ≡ u.block
+    → r'.ropes ≡ without_rope id r.ropes → d'.dues ≡ index_of (without_rope id r.ropes) → d.room ≤ d'.room → u'.block ≡ u.block
     → ((q : BlockPair) → uses_counted u'.counts q + uses_by u.block rope.pieces q ≡ uses_counted u.counts q) → ((q : BlockPair) → live_counted u'.counts q + uses_by u.block rope.pieces q ≡ live_counted u.counts q) → IsWhole r' d' u'
 whole_without r r' d d' u u' id rope h found is dues room block uses live =
     make_whole r' d' u' u.block (without_rope id r.ropes) block is (in_order-without id r.ropes h.table.rising) (every_without (λ rope. rope.last ≤ 3) id r.ropes h.table.classes)

@@ -1,13 +1,13 @@
 //! The order in which ropes are due.
 
 ghost use Rattle.std.specs.Prelude.{◌≡◌, ◌<◌, ◌≤◌, [], List, not, IfOk, OnOk, IfSome, option_map, slice_get, length};
-ghost use Rattle.std.specs.VecDeque.{deque_capacity};
 ghost use Rattle.rope_table.specs.Table.{as_pair, with_due, is_sooner, Every, IsInOrder};
 ghost use Rattle.rope_table.specs.declared.dues.Due.{Due};
 ghost use Rattle.rope_table.specs.Inside.{place_of, is_due_before};
 
+use crate::copies::{Duplicate, copied};
+use counted_row::CountedRow;
 use std::alloc::Global;
-use std::collections::VecDeque;
 use std::marker::Model;
 use voice_units::{NoMemory, RopeId};
 
@@ -21,17 +21,18 @@ pub struct Due {
 /// Ropes in the order in which they are due. Contracts see the list, and how many fit without memory.
 #[derive(Drop)]
 pub(crate) struct DueOrder {
-    dues: VecDeque<Due>,
+    alloc: Global,
+    dues: CountedRow<Due>,
 }
 
 impl Model for DueOrder {
-    ghost use Rattle.std.specs.VecDeque.{deque_capacity};
+    ghost use Rattle.std.specs.Prelude.{◌+◌, length};
     ghost use Rattle.rope_table.specs.Table.{is_sooner, IsInOrder};
     ghost use Rattle.rope_table.specs.Inside.{Dues};
 
     ghost Value = { Dues };
 
-    ghost view = { λ d. record { dues = d.dues.items; room = deque_capacity d.dues } };
+    ghost view = { λ d. record { dues = d.dues.items; room = length d.dues.items + d.dues.spare } };
 
     ghost invariant = { λ d. IsInOrder is_sooner d.dues.items };
 }
@@ -44,7 +45,7 @@ fn is_before(due: &Due, at: u64, id: u64) -> bool
 }
 
 /// How many are due before a rope, where that is seen at the last one: a rope that has just become idle is mostly due last.
-fn place_at_end(dues: &VecDeque<Due>, at: u64, id: u64) -> Option<usize>
+fn place_at_end(dues: &CountedRow<Due>, at: u64, id: u64) -> Option<usize>
     requires { IsInOrder is_sooner dues.now.items }
     ensures { IfSome result (λ i. i ≡ place_of (is_due_before at id) dues.now.items) }
 {
@@ -52,7 +53,9 @@ fn place_at_end(dues: &VecDeque<Due>, at: u64, id: u64) -> Option<usize>
     if count == 0 {
         return None;
     }
-    let last = &dues[count - 1];
+    let Some(last) = dues.get(count - 1) else {
+        return None;
+    };
     if is_before(last, at, id) {
         return Some(count);
     }
@@ -63,7 +66,7 @@ fn place_at_end(dues: &VecDeque<Due>, at: u64, id: u64) -> Option<usize>
 }
 
 /// How many are due before a rope.
-fn place(dues: &VecDeque<Due>, at: u64, id: u64) -> usize
+fn place(dues: &CountedRow<Due>, at: u64, id: u64) -> usize
     requires { IsInOrder is_sooner dues.now.items }
     ensures { result ≡ place_of (is_due_before at id) dues.now.items }
 {
@@ -73,16 +76,10 @@ fn place(dues: &VecDeque<Due>, at: u64, id: u64) -> usize
     dues.partition_point(|due| is_before(due, at, id))
 }
 
-/// The same list, with room for n in all.
-fn copied(dues: &VecDeque<Due>, n: usize) -> Result<VecDeque<Due>, NoMemory>
-    ensures dues { IfOk result (λ copy. copy.items ≡ dues.now.items) }
-    ensures room { IfOk result (λ copy. n ≤ deque_capacity copy) }
-{
-    let mut copy = VecDeque::with_capacity(*dues.allocator(), n)?;
-    for k in 0..dues.len() {
-        copy.push_back(dues[k])?;
+impl Duplicate for Due {
+    fn duplicate(&self) -> Result<Due, NoMemory> {
+        Ok(*self)
     }
-    Ok(copy)
 }
 
 impl DueOrder {
@@ -91,7 +88,8 @@ impl DueOrder {
         ensures { result.dues ≡ [] }
     {
         DueOrder {
-            dues: VecDeque::new(alloc),
+            alloc,
+            dues: CountedRow::new(alloc),
         }
     }
 
@@ -100,8 +98,11 @@ impl DueOrder {
         ensures dues { IfOk result (λ copy. copy.dues ≡ self.now.dues) }
         ensures room { IfOk result (λ copy. n ≤ copy.room) }
     {
-        let dues = copied(&self.dues, n)?;
-        Ok(DueOrder { dues })
+        let dues = copied(self.alloc, &self.dues, n)?;
+        Ok(DueOrder {
+            alloc: self.alloc,
+            dues,
+        })
     }
 
     /// Makes room for n ropes in all.
@@ -138,7 +139,7 @@ impl DueOrder {
     /// Takes out a rope that is there.
     pub(crate) fn leave(&mut self, due: Due)
         ensures dues { (rest : List Due) → Every (λ other. is_sooner other due ≡ not (is_sooner due other)) rest → self.old.dues ≡ with_due due rest → self.new.dues ≡ rest }
-        ensures room { self.new.room ≡ self.old.room }
+        ensures room { self.old.room ≤ self.new.room }
     {
         let place = place(&self.dues, due.at, due.id.number());
         let _left = self.dues.remove(place);

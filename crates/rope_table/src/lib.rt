@@ -1,6 +1,7 @@
 //! Live ropes by number, how many use each block, and the order in which they are due.
 #![tactic(auto)]
 
+mod copies;
 mod counts;
 mod dues;
 mod files;

@@ -4,9 +4,10 @@ ghost use Rattle.std.specs.Prelude.{◌≡◌, ◌<◌, ◌≤◌, None, IfOk, O
 ghost use Rattle.rope_table.specs.Table.{rope_of, number_above, with_rope, without_rope, idled, held_back, is_lower, IsInOrder, piece_count};
 ghost use Rattle.rope_table.specs.Inside.{place_of, lies_below, is_within, IsAt};
 
+use crate::copies::{Duplicate, copied};
+use counted_row::CountedRow;
 use rope_algebra::Pieces;
 use std::alloc::Global;
-use std::collections::VecDeque;
 use std::marker::Model;
 use voice_units::{Moment, NoMemory, RopeId};
 
@@ -31,24 +32,24 @@ pub struct Rope {
 /// The live ropes in rising number, and how many pieces they have in all. Contracts see the list, and how many fit without memory.
 #[derive(Drop)]
 pub(crate) struct LiveRopes {
-    ropes: VecDeque<Rope>,
+    alloc: Global,
+    ropes: CountedRow<Rope>,
     pieces: u64,
 }
 
 impl Model for LiveRopes {
-    ghost use Rattle.std.specs.Prelude.{min, ◌^◌};
-    ghost use Rattle.std.specs.VecDeque.{deque_capacity};
+    ghost use Rattle.std.specs.Prelude.{min, ◌+◌, ◌^◌, length};
     ghost use Rattle.rope_table.specs.Inside.{Ropes, AreLive};
 
     ghost Value = { Ropes };
 
-    ghost view = { λ r. record { ropes = r.ropes.items; room = min (deque_capacity r.ropes) (2 ^ 31) } };
+    ghost view = { λ r. record { ropes = r.ropes.items; room = min (length r.ropes.items + r.ropes.spare) (2 ^ 31) } };
 
     ghost invariant = { λ r. AreLive r.ropes.items r.pieces };
 }
 
 /// How many ropes have a number below this one, where that takes no search: it is above the last one, or the numbers from it to the last one stand without a gap.
-fn place_at_end(ropes: &VecDeque<Rope>, id: u64) -> Option<usize>
+fn place_at_end(ropes: &CountedRow<Rope>, id: u64) -> Option<usize>
     requires { IsInOrder is_lower ropes.now.items }
     ensures { IfSome result (λ i. i ≡ place_of (lies_below id) ropes.now.items) }
 {
@@ -56,7 +57,10 @@ fn place_at_end(ropes: &VecDeque<Rope>, id: u64) -> Option<usize>
     if count == 0 {
         return None;
     }
-    let last = ropes[count - 1].id.number();
+    let Some(rope) = ropes.get(count - 1) else {
+        return None;
+    };
+    let last = rope.id.number();
     if last < id {
         return Some(count);
     }
@@ -64,14 +68,17 @@ fn place_at_end(ropes: &VecDeque<Rope>, id: u64) -> Option<usize>
         return None;
     }
     let place = count - 1 - (last - id) as usize;
-    if ropes[place].id.number() == id {
+    let Some(rope) = ropes.get(place) else {
+        return None;
+    };
+    if rope.id.number() == id {
         return Some(place);
     }
     None
 }
 
 /// How many ropes have a number below this one.
-fn place(ropes: &VecDeque<Rope>, id: u64) -> usize
+fn place(ropes: &CountedRow<Rope>, id: u64) -> usize
     requires { IsInOrder is_lower ropes.now.items }
     ensures { result ≡ place_of (lies_below id) ropes.now.items }
 {
@@ -82,32 +89,25 @@ fn place(ropes: &VecDeque<Rope>, id: u64) -> usize
 }
 
 /// How many ropes have a number up to this one.
-fn place_above(ropes: &VecDeque<Rope>, id: u64) -> usize
+fn place_above(ropes: &CountedRow<Rope>, id: u64) -> usize
     requires { IsInOrder is_lower ropes.now.items }
     ensures { result ≡ place_of (is_within id) ropes.now.items }
 {
     ropes.partition_point(|rope| rope.id.number() <= id)
 }
 
-/// Equal ropes.
-fn copied(ropes: &VecDeque<Rope>) -> Result<VecDeque<Rope>, NoMemory>
-    ensures { IfOk result (λ copy. copy.items ≡ ropes.now.items) }
-{
-    let count = ropes.len();
-    let mut copy = VecDeque::with_capacity(*ropes.allocator(), count)?;
-    for k in 0..count {
-        let rope = &ropes[k];
-        let pieces = rope.pieces.copy()?;
-        copy.push_back(Rope {
-            id: rope.id,
+impl Duplicate for Rope {
+    fn duplicate(&self) -> Result<Rope, NoMemory> {
+        let pieces = self.pieces.copy()?;
+        Ok(Rope {
+            id: self.id,
             pieces,
-            idle: rope.idle,
-            last: rope.last,
-            wait: rope.wait,
-            kept: rope.kept,
-        })?;
+            idle: self.idle,
+            last: self.last,
+            wait: self.wait,
+            kept: self.kept,
+        })
     }
-    Ok(copy)
 }
 
 impl LiveRopes {
@@ -116,7 +116,8 @@ impl LiveRopes {
         ensures { result.ropes ≡ [] }
     {
         LiveRopes {
-            ropes: VecDeque::new(alloc),
+            alloc,
+            ropes: CountedRow::new(alloc),
             pieces: 0,
         }
     }
@@ -125,8 +126,9 @@ impl LiveRopes {
     pub(crate) fn copy(&self) -> Result<LiveRopes, NoMemory>
         ensures { IfOk result (λ copy. copy.ropes ≡ self.now.ropes) }
     {
-        let ropes = copied(&self.ropes)?;
+        let ropes = copied(self.alloc, &self.ropes, self.ropes.len())?;
         Ok(LiveRopes {
+            alloc: self.alloc,
             ropes,
             pieces: self.pieces,
         })
@@ -157,7 +159,10 @@ impl LiveRopes {
     pub(crate) fn room(&self) -> usize
         ensures { result ≡ self.now.room }
     {
-        self.ropes.capacity().min(MOST)
+        self.ropes
+            .len()
+            .saturating_add(self.ropes.spare())
+            .min(MOST)
     }
 
     /// How many pieces the ropes have in all.
@@ -233,30 +238,32 @@ impl LiveRopes {
     /// Since when the rope of a number is idle, the class of the last row that it lost, and how long it waits.
     pub(crate) fn set_idle(&mut self, id: RopeId, idle: Moment, last: u8, wait: u32)
         ensures ropes { self.new.ropes ≡ map (idled id idle last wait) self.old.ropes }
-        ensures room { self.new.room ≡ self.old.room }
+        ensures room { self.old.room ≤ self.new.room }
     {
         let Some(place) = self.place_of_live(id) else {
             return;
         };
-        let Some(rope) = self.ropes.get_mut(place) else {
+        let Some(mut rope) = self.ropes.remove(place) else {
             return;
         };
         rope.idle = idle;
         rope.last = last;
         rope.wait = wait;
+        let _entered = self.ropes.insert(place, rope);
     }
 
     /// Whether a row keeps the rope of a number.
     pub(crate) fn keep(&mut self, id: RopeId, kept: bool)
         ensures ropes { self.new.ropes ≡ map (held_back id kept) self.old.ropes }
-        ensures room { self.new.room ≡ self.old.room }
+        ensures room { self.old.room ≤ self.new.room }
     {
         let Some(place) = self.place_of_live(id) else {
             return;
         };
-        let Some(rope) = self.ropes.get_mut(place) else {
+        let Some(mut rope) = self.ropes.remove(place) else {
             return;
         };
         rope.kept = kept;
+        let _entered = self.ropes.insert(place, rope);
     }
 }

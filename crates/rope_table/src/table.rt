@@ -15,7 +15,7 @@ use std::marker::Model;
 use std::sync::ledger::Ledger;
 use voice_units::{Moment, NoMemory, RopeId, Steps};
 
-/// The live ropes. Contracts see the list of the ropes in rising number, how many of them and of the held passages use each block, and for how many more ropes and blocks there is room. A rope is found by halving, so a look-up grows with the logarithm of the number of ropes. Where no number is missing from it to the last one, it is found at once.
+/// The live ropes. Contracts see the list of the ropes in rising number, how many of them and of the held passages use each block, and for how many more ropes and blocks there is room. Ropes lie in chunks of at most 256, so one comes or goes without moving all later ones. A rope is found by halving over the chunks and then in one of them, and where no number is missing from it to the last one, without a search; its place is counted over the chunks in front of it.
 #[derive(Drop)]
 pub struct RopeTable {
     ropes: LiveRopes,
@@ -197,7 +197,7 @@ impl RopeTable {
         });
     }
 
-    /// Takes a rope out, and gives its pieces; `None` exactly where it is not live. It takes no memory; the ropes on its shorter side move up.
+    /// Takes a rope out, and gives its pieces; `None` exactly where it is not live. It takes no memory, and moves a few hundred ropes at most.
     pub fn remove(&mut self, id: RopeId) -> Option<Pieces>
         ensures value { result ≡ pieces_at self.old.ropes id }
         ensures ropes { self.new.ropes ≡ without_rope id self.old.ropes }
@@ -249,7 +249,7 @@ impl RopeTable {
         self.dues.enter(due_of(id, idle, wait));
     }
 
-    /// Whether a row keeps the rope of a number: a rope that is kept is not due. Where it is not live nothing changes. It takes no memory; the rope comes or goes at its place among those that are due, whose shorter side moves, and at the end of them at once.
+    /// Whether a row keeps the rope of a number: a rope that is kept is not due. Where it is not live nothing changes. It takes no memory; the rope comes or goes at its place among those that are due, of which a few hundred move at most.
     pub fn keep(&mut self, id: RopeId, kept: bool)
         ensures ropes { self.new.ropes ≡ map (held_back id kept) self.old.ropes }
         ensures block { self.new.block ≡ self.old.block }

@@ -22,7 +22,7 @@ fn put(
     idle: Moment,
     wait: u32,
 ) -> Result<(), NoMemory>
-    requires few { before < 1000 }
+    requires few { before < 2000 }
     requires uses { (pair : BlockPair) → uses_at table.old pair ≤ before }
     ensures uses { (pair : BlockPair) → uses_at table.new pair ≤ before + 1 }
     ensures counts { Counts table.old [] → Counts table.new [] }
@@ -223,5 +223,83 @@ fn a_held_passage_outlives_its_rope(rt: HostRuntime) -> Result<(), Fail> {
     assert!(rt; table.uses(RopeId(1), 0) == 0);
     assert!(rt; copy.count() == 1 && copy.uses(RopeId(1), 0) == 1);
     assert!(rt; due_are(&copy, &[(60, 1)]));
+    Ok(())
+}
+
+// A table of the ropes 10, 20 and so on, of which each has been idle for a moment longer than the next one.
+fn of_many(alloc: Global, count: u16) -> Result<RopeTable, NoMemory>
+    requires { count < 2000 }
+{
+    let mut table = RopeTable::new(alloc, BLOCK);
+    for k in 0..count {
+        let place = u64::from(k) + 1;
+        put(
+            &mut table,
+            u32::from(k),
+            RopeId(10 * place),
+            one_block(alloc, k)?,
+            Moment(place),
+            60,
+        )?;
+    }
+    Ok(table)
+}
+
+// How many of these ropes go.
+fn remove_each(table: &mut RopeTable, from: u16, end: u16) -> u16 {
+    let mut gone: u16 = 0;
+    for place in from..end {
+        if table.remove(RopeId(10 * u64::from(place))).is_some() {
+            gone = gone.wrapping_add(1);
+        }
+    }
+    gone
+}
+
+fn keep_each(table: &mut RopeTable, from: u16, end: u16) {
+    for place in from..end {
+        table.keep(RopeId(10 * u64::from(place)), true);
+    }
+}
+
+// Whether these ropes follow a number, one after another.
+fn follow(table: &RopeTable, number: u64, from: u16, end: u16) -> bool {
+    let mut above = number;
+    for place in from..end {
+        let Some(id) = table.after(above) else {
+            return false;
+        };
+        if id.number() != 10 * u64::from(place) {
+            return false;
+        }
+        above = id.number();
+    }
+    true
+}
+
+// Whether the ropes 500 to 999 are gone, and three are due.
+fn middle_is_gone(table: &RopeTable) -> bool {
+    table.count() == 1000
+        && follow(table, 0, 1, 500)
+        && follow(table, 4990, 1000, 1501)
+        && table.after(15000).is_none()
+        && due_are(table, &[(360, 3000), (1211, 12000), (1560, 15000)])
+}
+
+#[test]
+fn many_ropes_go_from_the_middle(rt: HostRuntime) -> Result<(), Fail> {
+    let mut table = of_many(rt.alloc(), 1500)?;
+    assert!(rt; follow(&table, 0, 1, 1501));
+    assert_eq!(rt; remove_each(&mut table, 500, 1000), 500);
+    assert_eq!(rt; remove_each(&mut table, 500, 1000), 0);
+    keep_each(&mut table, 1, 1500);
+    table.set_idle(RopeId(12000), Moment(1161), 1, 50);
+    table.keep(RopeId(12000), false);
+    table.keep(RopeId(3000), false);
+    assert!(rt; middle_is_gone(&table));
+    let copy = table.copy()?;
+    assert!(rt; middle_is_gone(&copy));
+    assert!(rt; table.remove(RopeId(12000)).is_some());
+    assert!(rt; middle_is_gone(&copy) && !middle_is_gone(&table));
     Ok(())
 }

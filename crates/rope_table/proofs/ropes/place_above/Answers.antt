@@ -1,4 +1,4 @@
-use Rattle.std.proofs.Common.{rules, arith}
+use Rattle.std.proofs.Common.{rules}
 use Rattle.std.proofs.lemmas.List.Sorted.{IsPartitionPoint-from_clause}
 use Rattle.rope_table.specs.Table.{is_lower}
 use Rattle.rope_table.specs.Inside.{is_within}
@@ -10,6 +10,6 @@ pub returns : goal.returns
 returns c =
     let ropes = c.args.ropes.now.items in
     let test = is_within c.args.id in
-    at_partition test ropes c.partition_point.result (omega (arith, c.partition_point.ensures.bound, c.args.ropes.now.ok.0))
+    at_partition test ropes c.partition_point.result c.partition_point.ensures.bound
     (IsPartitionPoint-from_clause test ropes c.partition_point.result c.partition_point.ensures.partitioned
     (partitioned is_lower test (within_down c.args.id) ropes c.requires) (λ a r f' called. search rules))

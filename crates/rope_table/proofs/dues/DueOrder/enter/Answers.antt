@@ -13,15 +13,15 @@ put c =
     let dues = c.self.inside.dues.items in
     let apart : Apart is_sooner c.args.due dues = subst (λ (v : Dues). Apart is_sooner c.args.due v.dues) (sym c.self.view_is) c.requires.apart in
     let place : c.place-place.result ≡ place_of (is_due_before c.args.due.at c.args.due.id) dues = c.place-place.ensures ∙ ap (λ n. place_of (is_due_before c.args.due.at n) dues) c.number.ensures.value in
-    let room : length dues < c.self.inside.dues.cap = subst (λ (v : Dues). length v.dues < v.room) (sym c.self.view_is) c.requires.room in
-    ok_part c.insert-entered.result _ _ c.insert-entered.ensures.items c.insert-entered.ensures.full (omega (arith, room, c.self.inside.dues.ok.0))
+    let room = subst (λ (v : Dues). length v.dues < v.room) (sym c.self.view_is) c.requires.room in
+    ok_part c.insert-entered.result c.insert-entered.ensures.ok (c.insert-entered.ensures.room (omega (arith, room)))
     ∙ ap (λ i. insert dues i c.args.due) place
     ∙ sym (put_at_place is_sooner c.args.due dues apart)
 
 pub insert-entered-requires : goal.insert-entered-requires
 insert-entered-requires c =
     let most = place_of-le (is_due_before c.args.due.at c.number.result) c.self.inside.dues.items in
-    omega (arith, most, c.place-place.ensures, c.self.inside.dues.ok.0)
+    omega (arith, most, c.place-place.ensures)
 
 pub invariant_of-self : goal.invariant_of-self
 invariant_of-self c =

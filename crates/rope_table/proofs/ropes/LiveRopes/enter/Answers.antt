@@ -7,20 +7,20 @@ use Rattle.rope_table.proofs.Totals.{few_pieces, live_added}
 use Rattle.rope_table.proofs.Edited.{apart_from, ok_part}
 use Rattle.rope_table.proofs.ropes.LiveRopes.enter.Goals as goal
 
-put : (c : goal.Joined-entered) → c.insert-entered.new.self.items ≡ with_rope c.args.rope c.self.inside.ropes.items
+put : (c : goal.After-insert-entered) → c.insert-entered.new.self.items ≡ with_rope c.args.rope c.self.inside.ropes.items
 put c =
     let ropes = c.self.inside.ropes.items in
     let none : rope_of ropes c.args.rope.id ≡ None = ap (λ (v : Ropes). rope_of v.ropes c.args.rope.id) c.self.view_is ∙ c.requires.unknown in
     let place : c.place-place.result ≡ place_of (lies_below c.args.rope.id) ropes = c.place-place.ensures ∙ ap (λ n. place_of (lies_below n) ropes) c.number.ensures.value in
     let room = subst (λ (v : Ropes). length v.ropes < v.room) (sym c.self.view_is) c.requires.room in
-    ok_part c.insert-entered.result _ _ c.insert-entered.ensures.items c.insert-entered.ensures.full (omega (arith, room, c.self.inside.ropes.ok.0))
+    ok_part c.insert-entered.result c.insert-entered.ensures.ok (c.insert-entered.ensures.room (omega (arith, room)))
     ∙ ap (λ i. insert ropes i c.args.rope) place
     ∙ sym (put_at_place is_lower c.args.rope ropes (apart_from c.args.rope ropes none))
 
 pub insert-entered-requires : goal.insert-entered-requires
 insert-entered-requires c =
     let most = place_of-le (lies_below c.number.result) c.self.inside.ropes.items in
-    omega (arith, most, c.place-place.ensures, c.self.inside.ropes.ok.0)
+    omega (arith, most, c.place-place.ensures)
 
 pub overflow_add-self : goal.overflow_add-self
 overflow_add-self c =

@@ -2,7 +2,7 @@ use Rattle.std.proofs.Common.{◌≡◌, Some, ap, sym, ◌∙◌, subst, arith}
 use Rattle.rope_table.specs.Table.{rope_of, without_rope}
 use Rattle.rope_table.specs.Inside.{Ropes, IsAt}
 use Rattle.rope_table.proofs.ById.{without_none}
-use Rattle.rope_table.proofs.Edited.{remove_is_without, removed, some_part, beyond_if}
+use Rattle.rope_table.proofs.Edited.{remove_is_without, none_stands}
 use Rattle.rope_table.proofs.Totals.{live_without, pieces_within}
 use Rattle.rope_table.proofs.ropes.LiveRopes.leave.Goals as goal
 
@@ -12,21 +12,18 @@ returns-in_default-clause-ropes c = sym (without_none c.args.id c.args.self.now.
 pub invariant_of-self : goal.invariant_of-self
 invariant_of-self c =
     let at : IsAt c.self.inside.ropes.items c.args.id c.in-Some.place = subst (λ (v : Ropes). IsAt v.ropes c.args.id c.in-Some.place) (sym c.self.view_is) c.in-Some.ensures.live in
-    let beyond = beyond_if _ _ c.in_default-remove.ensures.variant.1 in
-    absurd (omega (arith, at.within, beyond, c.self.inside.ropes.ok.0))
+    absurd (none_stands c.args.id c.in-Some.place c.self.inside.ropes.items at (sym c.in_default-remove.ensures.value))
 
 -- a rope of this number is live
 found : (c : goal.After-from) → rope_of c.self.inside.ropes.items c.args.id ≡ Some c.in-Some-remove.rope
 found c =
     let at : IsAt c.self.inside.ropes.items c.args.id c.in-Some.place = subst (λ (v : Ropes). IsAt v.ropes c.args.id c.in-Some.place) (sym c.self.view_is) c.in-Some.ensures.live in
-    sym (sym c.in-Some-remove.is
-    ∙ removed c.self.inside.ropes.items c.in-Some.place _ c.remove.result c.remove.ensures.variant c.remove.ensures.value (omega (arith, at.within, c.self.inside.ropes.ok.0)) c.self.inside.ropes.ok.0
-    ∙ at.found)
+    sym at.found ∙ sym c.in-Some-remove.ensures.value
 
 left : (c : goal.After-from) → c.remove.new.self.items ≡ without_rope c.args.id c.self.inside.ropes.items
 left c =
     let at : IsAt c.self.inside.ropes.items c.args.id c.in-Some.place = subst (λ (v : Ropes). IsAt v.ropes c.args.id c.in-Some.place) (sym c.self.view_is) c.in-Some.ensures.live in
-    some_part c.remove.result c.in-Some.place _ c.remove.ensures.variant c.remove.ensures.items (omega (arith, at.within, c.self.inside.ropes.ok.0))
+    c.remove.ensures.items
     ∙ remove_is_without c.args.id c.in-Some.place c.self.inside.ropes.items c.self.invariant.order at
 
 pub overflow_sub-self : goal.overflow_sub-self

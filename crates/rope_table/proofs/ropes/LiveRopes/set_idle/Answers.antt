@@ -1,25 +1,27 @@
-use Rattle.std.proofs.Common.{map, ap, sym, ◌∙◌, subst, refl}
+use Rattle.std.proofs.Common.{◌≡◌, map, ap, sym, ◌∙◌, subst, refl, arith}
+use Rattle.std.specs.List.{insert}
 use Rattle.rope_table.specs.declared.ropes.Rope.{Rope}
 use Rattle.rope_table.specs.Table.{idled}
 use Rattle.rope_table.specs.Inside.{Ropes, IsAt}
 use Rattle.rope_table.proofs.ById.{map_none}
-use Rattle.rope_table.proofs.Edited.{set_is_map}
+use Rattle.rope_table.proofs.Edited.{put_back, ok_part}
 use Rattle.rope_table.proofs.Totals.{live_changed}
 use Rattle.rope_table.proofs.ropes.LiveRopes.set_idle.Goals as goal
 
 pub returns-in_default-clause-ropes : goal.returns-in_default-clause-ropes
 returns-in_default-clause-ropes c = sym (map_none c.args.id (λ (rope : Rope). record rope { idle = c.args.idle; last = c.args.last; wait = c.args.wait }) c.args.self.now.ropes c.in_default.ensures.none)
 
-pub invariant_of-self-2 : goal.invariant_of-self-2
-invariant_of-self-2 c =
+changed : (c : goal.After-insert-entered) → c.insert-entered.new.self.items ≡ map (idled c.args.id c.args.idle c.args.last c.args.wait) c.self.inside.ropes.items
+changed c =
     let ropes = c.self.inside.ropes.items in
+    let rope = c.in-Some-remove.rope in
     let at : IsAt ropes c.args.id c.in-Some.place = subst (λ (v : Ropes). IsAt v.ropes c.args.id c.in-Some.place) (sym c.self.view_is) c.in-Some.ensures.live in
-    live_changed c.args.id (λ (rope : Rope). record rope { idle = c.args.idle; last = c.args.last; wait = c.args.wait }) (λ r. refl) (λ r. refl) ropes _ c.self.inside.pieces c.self.invariant
-    (set_is_map c.args.id c.in-Some.place (λ (rope : Rope). record rope { idle = c.args.idle; last = c.args.last; wait = c.args.wait }) ropes c.in-Some-get_mut.rope.now c.self.invariant.order at c.in-Some-get_mut.ensures.value)
+    ok_part c.insert-entered.result c.insert-entered.ensures.ok (c.insert-entered.ensures.room (omega (arith, c.in-Some-remove.ensures.gained)))
+    ∙ ap (λ l. insert l c.in-Some.place ((λ (rope : Rope). record rope { idle = c.args.idle; last = c.args.last; wait = c.args.wait }) rope)) c.in-Some-remove.ensures.items
+    ∙ put_back c.args.id c.in-Some.place (λ (rope : Rope). record rope { idle = c.args.idle; last = c.args.last; wait = c.args.wait }) ropes rope c.self.invariant.order at (sym c.in-Some-remove.ensures.value)
+
+pub invariant_of-self-2 : goal.invariant_of-self-2
+invariant_of-self-2 c = live_changed c.args.id (λ (rope : Rope). record rope { idle = c.args.idle; last = c.args.last; wait = c.args.wait }) (λ r. refl) (λ r. refl) c.self.inside.ropes.items _ c.self.inside.pieces c.self.invariant (changed c)
 
 pub returns-clause-ropes : goal.returns-clause-ropes
-returns-clause-ropes c =
-    let ropes = c.self.inside.ropes.items in
-    let at : IsAt ropes c.args.id c.in-Some.place = subst (λ (v : Ropes). IsAt v.ropes c.args.id c.in-Some.place) (sym c.self.view_is) c.in-Some.ensures.live in
-    set_is_map c.args.id c.in-Some.place (λ (rope : Rope). record rope { idle = c.args.idle; last = c.args.last; wait = c.args.wait }) ropes c.in-Some-get_mut.rope.now c.self.invariant.order at c.in-Some-get_mut.ensures.value
-    ∙ ap (λ (v : Ropes). map (idled c.args.id c.args.idle c.args.last c.args.wait) v.ropes) c.self.view_is
+returns-clause-ropes c = changed c ∙ ap (λ (v : Ropes). map (idled c.args.id c.args.idle c.args.last c.args.wait) v.ropes) c.self.view_is

@@ -1,4 +1,4 @@
-use Rattle.std.proofs.Common.{◌≡◌, ◌≤◌, ◌-◌, length, Some, refl, ap, sym, ◌∙◌, subst, arith}
+use Rattle.std.proofs.Common.{◌≡◌, ◌≤◌, ◌-◌, length, Some, ap, sym, ◌∙◌, subst, arith}
 use Rattle.std.specs.Prelude.{min}
 use Rattle.rope_table.specs.Table.{Table, Counts, rope_of}
 use Rattle.rope_table.proofs.ById.{without_none}
@@ -40,7 +40,7 @@ invariant_of-self-then-kept c =
     let ropes = c.self.inside.ropes.ropes in
     let found : rope_of ropes c.args.id ≡ Some rope = sym c.in-Some.ensures.value in
     whole_without c.self.inside.ropes c.leave.new.self c.self.inside.dues c.self.inside.dues c.self.inside.counts c.lower.new.self c.args.id rope c.self.invariant found c.in-Some.ensures.ropes
-    (c.self.invariant.ordered ∙ index_of_kept c.args.id ropes rope c.self.invariant.table.rising found c.if-kept.true) refl c.lower.ensures.block c.lower.ensures.uses c.lower.ensures.live
+    (c.self.invariant.ordered ∙ index_of_kept c.args.id ropes rope c.self.invariant.table.rising found c.if-kept.true) (omega arith) c.lower.ensures.block c.lower.ensures.uses c.lower.ensures.live
 
 pub returns-then-kept-clause-counts : goal.returns-then-kept-clause-counts
 returns-then-kept-clause-counts c = λ held counted.
