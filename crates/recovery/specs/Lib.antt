@@ -2,3 +2,4 @@ pub mod Shown
 pub mod Placing
 pub mod Building
 pub mod Replayed
+pub mod Gathered

@@ -1,6 +1,6 @@
 //! What the effects of changes do to the tables.
 
-ghost use Rattle.std.specs.Prelude.{◌≡◌, ◌≢◌, ℕ, ◌+◌, ◌<◌, ◌≤◌, ◌^◌, ◌&&◌, not, Bool, true, false, List, [], ◌∷◌, ◌++◌, length, is_some, IfOk, Ok, None};
+ghost use Rattle.std.specs.Prelude.{◌≡◌, ◌≢◌, ℕ, ◌+◌, ◌<◌, ◌≤◌, ◌^◌, ◌&&◌, not, Bool, true, false, List, [], ◌∷◌, ◌++◌, length, is_some, IfOk, IsOk, Ok, None};
 ghost use Rattle.voice_units.specs.declared.Piece.{Piece};
 ghost use Rattle.voice_units.specs.Spots.{Spot, spots_of, pieces_of};
 ghost use Rattle.voice_units.specs.Blocks.{BlockPair, pairs_at, has_pair};
@@ -34,6 +34,7 @@ fn put_row(interests: &mut InterestTable, row: Row) -> Result<bool, NoMemory>
     ensures exact { IfOk result (λ done. done ≡ not (is_some (row_at interests.old.rows row.class row.key))) }
     ensures done { result ≡ Ok true → interests.new.rows ≡ interests.old.rows ++ row ∷ [] }
     ensures same { result ≢ Ok true → interests.new.rows ≡ interests.old.rows }
+    ensures room { 1 ≤ interests.old.spare → IsOk result }
 {
     match interests.add(row) {
         Ok(()) => Ok(true),
@@ -63,6 +64,7 @@ impl Parts {
         ensures legal { (held : List (List Piece)) (d : Durable Spot) → Shows held self.old d → IfOk result (λ done. done ≡ (is_live d.ropes row.rope && not (is_some (row_at d.rows row.class row.key)))) }
         ensures done { (held : List (List Piece)) (form : ℕ) (d : Durable Spot) → Shows held self.old d → result ≡ Ok true → Shows held self.new (changed form d (Retained row)) }
         ensures same { (held : List (List Piece)) (d : Durable Spot) → Shows held self.old d → result ≢ Ok true → Shows held self.new d }
+        ensures room { 1 ≤ self.old.interests.spare → IsOk result }
         ensures blocks { self.new.blocks ≡ self.old.blocks }
         ensures form { self.new.form ≡ self.old.form }
     {

@@ -80,7 +80,7 @@ impl Parts {
     }
 
     /// Takes out ropes, and the blocks that nothing uses then. It takes no memory.
-    pub(crate) fn remove_ropes(&mut self, ids: &[RopeId])
+    pub fn remove_ropes(&mut self, ids: &[RopeId])
         ensures ropes { self.new.ropes.ropes ≡ filter (λ rope. not (among ids.now rope.id)) self.old.ropes.ropes }
         ensures block { self.new.ropes.block ≡ self.old.ropes.block }
         ensures counts { (held : List (List Piece)) → Counts self.old.ropes held → Counts self.new.ropes held }

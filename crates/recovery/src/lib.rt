@@ -16,6 +16,7 @@ mod sweeps;
 
 pub use parts::Parts;
 pub use replaying::{ReplayError, replay};
+pub use settling::{Going, gather};
 
 #[cfg(test)]
 mod replay_tests;

@@ -8,13 +8,22 @@ ghost use Rattle.voice_model.specs.Valid.{Once};
 ghost use Rattle.interest_table.specs.Table.{is_named};
 ghost use Rattle.rope_table.specs.Table.{Counts};
 ghost use Rattle.recovery.specs.Shown.{Shows, ShowsKept, RowsGone, IsOrderly, left_idle, rows_without};
+ghost use Rattle.recovery.specs.Gathered.{AreGoing};
 
 use crate::effects::wait_after;
 use crate::parts::Parts;
 use interest_table::{InterestTable, key_set};
 use std::alloc::Global;
+use std::collections::HashSet;
 use voice_model::{Class, Key};
 use voice_units::{Graces, NoMemory, RopeId};
+
+/// Rows that are to go together: their keys, and the rope of each.
+#[derive(Drop)]
+pub struct Going {
+    pub(crate) ropes: Vec<RopeId>,
+    pub(crate) keys: HashSet<Key>,
+}
 
 /// The number of a class, 1 to 3.
 fn number_of(class: Class) -> u8
@@ -43,6 +52,20 @@ fn ropes_of(
         }
     }
     Ok(ropes)
+}
+
+/// Gathers the rows of a class with these keys, which are to go. It takes a step for each key; no row is touched.
+pub fn gather(
+    alloc: Global,
+    interests: &InterestTable,
+    class: Class,
+    keys: &[Key],
+) -> Result<Going, NoMemory>
+    ensures { IfOk result (λ going. Once interests.now.rows → AreGoing class keys.now interests.now.rows going) }
+{
+    let ropes = ropes_of(alloc, interests, class, keys)?;
+    let keys = key_set(alloc, keys)?;
+    Ok(Going { ropes, keys })
 }
 
 impl Parts {
@@ -77,6 +100,16 @@ impl Parts {
         }
     }
 
+    /// Takes out gathered rows of a class. A rope that loses its last row is idle since now. It takes one pass over the rows and a step for each of those that go, and no memory.
+    pub fn drop_gathered(&mut self, graces: &Graces, class: Class, going: &Going)
+        ensures shows { (held : List (List Piece)) (d : Durable Spot) (keys : List (List ℕ)) → Shows held self.old d → IsOrderly self.old.form d → d.shape.graces ≡ graces.now → AreGoing class keys d.rows going.now → Shows held self.new (with_rows self.old.form (class_number class) d (rows_without class keys d.rows)) }
+        ensures blocks { self.new.blocks ≡ self.old.blocks }
+        ensures form { self.new.form ≡ self.old.form }
+    {
+        self.interests.remove_all(class, &going.keys);
+        self.settle_all(graces, &going.ropes, class);
+    }
+
     /// Takes out the rows of a class with these keys. A rope that loses its last row is idle since now. It takes one pass over the rows and a step for each key; after `NoMemory` nothing has changed.
     pub fn drop_rows(
         &mut self,
@@ -90,10 +123,8 @@ impl Parts {
         ensures blocks { self.new.blocks ≡ self.old.blocks }
         ensures form { self.new.form ≡ self.old.form }
     {
-        let ropes = ropes_of(alloc, &self.interests, class, keys)?;
-        let named = key_set(alloc, keys)?;
-        self.interests.remove_all(class, &named);
-        self.settle_all(graces, &ropes, class);
+        let going = gather(alloc, &self.interests, class, keys)?;
+        self.drop_gathered(graces, class, &going);
         Ok(())
     }
 }

@@ -1,0 +1,6 @@
+mod Uses
+mod Dues
+mod Made
+mod Smaller
+mod Calls
+mod Rebuilt
