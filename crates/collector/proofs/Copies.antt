@@ -1,13 +1,19 @@
 -- How often numbers stand in lists; lists that do not fall and have the same numbers are the same.
-use Rattle.std.proofs.Common.{◌≡◌, ℕ, suc, ◌+◌, ◌≤◌, ◌<◌, List, [], ◌∷◌, ◌++◌, length, get_or, ◌==◌, refl, sym, ◌∙◌, ap, subst, arith}
+use Rattle.std.proofs.Common.{◌≡◌, ℕ, suc, ◌+◌, ◌≤◌, ◌<◌, List, [], ◌∷◌, ◌++◌, length, take, get_or, nat_lt, ◌==◌, refl, sym, ◌∙◌, ap, subst, arith}
 use Rattle.std.specs.List.{sum_by}
-use Rattle.std.specs.List.Sorted.{IsPermutation, IsNonDecreasingBy}
+use Rattle.std.specs.List.Sorted.{IsPermutation, IsNonDecreasingBy, IsSplitAroundByKey, IsSplitAroundByKeyClosure}
+use denote.Ref.{Bor}
+use denote.Param.Members.{Mut}
+use Rattle.std.specs.Fn.{Called}
+use Rattle.std.proofs.lemmas.Fn.{always_returns_same}
+use Rattle.std.specs.Ordering.{nat_cmp}
+use Rattle.std.proofs.lemmas.Map.Keys.{ge_from_not_lt}
 use Rattle.std.proofs.lemmas.List.Sums.{sum_by-cons}
 use Rattle.std.proofs.lemmas.List.Sorted.{sum_by-IsPermutation}
-use Rattle.std.proofs.lemmas.Bool.{eqb-true, eq-eqb}
+use Rattle.std.proofs.lemmas.Bool.{eqb-true, eq-eqb, ltb-true, ltb-false}
 use Rattle.rope_table.specs.Table.{Every}
 use Rattle.rope_table.proofs.InOrder.{split}
-use Rattle.collector.specs.Due.{once, copies, Rises}
+use Rattle.collector.specs.Due.{once, copies, Rises, AreLowest}
 
 -- ---- copies
 
@@ -55,3 +61,48 @@ same_rising (x ∷ xs) (y ∷ ys) up also e =
     let same : x ≡ y = omega (arith, le, ge) in
     let rest = same_rising xs ys up.1 also.1 (λ n. let all = e n in let one = ap (λ m. once (m == n)) same in omega (arith, all, one)) in
     ap (λ m. m ∷ xs) same ∙ ap (λ l. y ∷ l) rest
+
+-- ---- the lowest numbers
+
+no_higher : (n x : ℕ) (xs : List ℕ) → ((k : ℕ) → k < length xs → get_or xs k 0 ≤ x) → 0 < copies n xs → n ≤ x
+no_higher n x [] all some = absurd (omega arith)
+no_higher n x (y ∷ ys) all some = split (y == n)
+    (λ e. let same = eqb-true y n e in let top = all 0 (omega arith) in omega (arith, same, top))
+    (λ e. no_higher n x ys (λ k within. all (suc k) (omega arith)) (subst (λ k. 0 < k) (ap (λ b. once b + copies n ys) e ∙ omega arith) some))
+
+-- what a selection leaves in front
+lowest_split : (front back all : List ℕ) (x : ℕ) → IsSplitAroundByKey (λ (n : ℕ). n) nat_cmp front x back → IsPermutation all (front ++ x ∷ back) → AreLowest front all
+lowest_split front back all x around same = record {
+  others = x ∷ back;
+  parts = λ n. sym (copies-permutation n all (front ++ x ∷ back) same) ∙ copies-append n front (x ∷ back);
+  below = λ n some.
+      let le : n ≤ x = no_higher n x front (λ k within. ge_from_not_lt x (get_or front k 0) (around.0 k 0 within)) some in
+      (le, every_from n back (λ k within. let up = ge_from_not_lt (get_or back k 0) x (around.1 k 0 within) in omega (arith, le, up)));
+}
+
+-- from the clauses of a selection, where each call gives the number itself
+pub lowest_selected : {F : Type 0} {g : Mut F (Bor ℕ × Unit {0}) ℕ} {f : F} (front back all : List ℕ) (x : ℕ) → IsSplitAroundByKeyClosure g nat_cmp f front x back → IsPermutation all (front ++ x ∷ back)
+    → ((a : Bor ℕ × Unit {0}) (r : ℕ) (f' : F) → Called g f a r f' → (r ≡ a.0.now) × (f' ≡ f)) → AreLowest front all
+lowest_selected {g = g} {f = f} front back all x around same h = lowest_split front back all x (around (λ (n : ℕ). n) (always_returns_same g (λ a r. r ≡ a.0.now) f h)) same
+
+lowest_rise : (xs others rising : List ℕ) → Rises xs → ((n : ℕ) → 0 < copies n xs → Every (λ y. n ≤ y) others) → Rises rising → ((n : ℕ) → copies n rising ≡ copies n xs + copies n others) → xs ≡ take (length xs) rising
+lowest_rise [] others rising up below also e = refl
+lowest_rise (x ∷ xs) others [] up below also e = let one = here x x xs refl in let none = e x in absurd (omega (arith, one, none))
+lowest_rise (x ∷ xs) others (y ∷ ys) up below also e =
+    let one = here x x xs refl in
+    let own = here y y ys refl in
+    let at_x = e x in
+    let at_y = e y in
+    let ge : y ≤ x = no_lower y x (y ∷ ys) (omega arith, also.0) (omega (arith, one, at_x)) in
+    let le : x ≤ y = split (nat_lt 0 (copies y (x ∷ xs)))
+    (λ h. no_lower x y (x ∷ xs) (omega arith, up.0) (ltb-true 0 (copies y (x ∷ xs)) h))
+    (λ h. let none = ltb-false 0 (copies y (x ∷ xs)) h in no_lower x y others (below x (omega (arith, one))) (omega (arith, own, at_y, none))) in
+    let same : x ≡ y = omega (arith, le, ge) in
+    let rest = lowest_rise xs others ys up.1 (λ n some. below n (omega (arith, some))) also.1 (λ n. let all = e n in let once_n = ap (λ m. once (m == n)) same in omega (arith, all, once_n)) in
+    ap (λ m. m ∷ xs) same ∙ ap (λ l. y ∷ l) rest
+
+-- the lowest numbers in rising order are the front of all in rising order
+pub lowest_first : (low first all rising : List ℕ) → AreLowest low all → Rises first → ((n : ℕ) → copies n first ≡ copies n low) → Rises rising → ((n : ℕ) → copies n all ≡ copies n rising) → first ≡ take (length first) rising
+lowest_first low first all rising h up same also e =
+    lowest_rise first h.others rising up (λ n some. h.below n (subst (λ k. 0 < k) (same n) some)) also
+    (λ n. let now = e n in let was = h.parts n in let of = same n in omega (arith, now, was, of))

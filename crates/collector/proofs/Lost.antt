@@ -1,8 +1,7 @@
 -- The steps by which ropes lose their last row.
-use Rattle.std.proofs.Common.{◌≡◌, ℕ, ◌+◌, ◌-◌, ◌≤◌, ◌<◌, List, [], ◌∷◌, ◌++◌, length, take, drop, map, filter, Bool, true, false, ◌&&◌, ◌==◌, nat_lt, cond, Option, Some, refl, sym, ◌∙◌, ap, subst, arith}
+use Rattle.std.proofs.Common.{◌≡◌, ℕ, ◌+◌, ◌-◌, ◌≤◌, ◌<◌, List, [], ◌∷◌, ◌++◌, length, take, map, filter, Bool, true, false, ◌&&◌, ◌==◌, nat_lt, cond, Option, Some, refl, sym, ◌∙◌, ap, subst, arith}
 use Rattle.std.specs.Prelude.{slice_get, unwrap_or}
 use Rattle.std.proofs.lemmas.Bool.{eqb-true, eq-eqb, ne_eqb, lt-ltb}
-use Rattle.std.proofs.lemmas.List.{drop_all, take_all}
 use Rattle.voice_model.specs.declared.calls.Row.{Row}
 use Rattle.voice_model.specs.State.{has_row}
 use Rattle.voice_model.specs.Changes.{is_expired}
@@ -12,7 +11,7 @@ use Rattle.rope_table.specs.Table.{Every, IsInOrder, is_lower, index_of}
 use Rattle.rope_table.proofs.InOrder.{split}
 use Rattle.std.proofs.lemmas.Bool.{ltb-true}
 use Rattle.collector.specs.Due.{once, copies, Rises, ids_by, expired_of, is_kept, gone_ids, has_only_expired}
-use Rattle.collector.proofs.Copies.{copies-append, same_rising}
+use Rattle.collector.proofs.Copies.{copies-append}
 use Rattle.collector.proofs.Expired.{expired_more, expired_front, none_left, gone_split, kept_once, kept_some, loses, ids_that}
 
 -- ---- a row of a rope goes
@@ -154,16 +153,3 @@ gone_without now until rows ropes due id some is =
     let lost = none_lost id now rows ropes in
     let first = ap (copies id) is in
     omega (arith, parts, free, lost, first)
-
-none_behind_all : (xs : List ℕ) → xs ++ [] ≡ xs
-none_behind_all [] = refl
-none_behind_all (x ∷ xs) = ap (λ l. x ∷ l) (none_behind_all xs)
-
--- a vector after its whole slice was written
-pub written_back : (len : ℕ) (xs ys : List ℕ) → length xs ≡ length ys → length ys ≤ len → take len (xs ++ drop (length xs) ys) ≡ xs
-written_back len xs ys same long =
-    ap (λ l. take len (xs ++ l)) (drop_all (length xs) ys (omega (arith, same))) ∙ ap (take len) (none_behind_all xs) ∙ take_all len xs (omega (arith, same, long))
-
--- what was sorted is the list in rising number
-pub sorted_is : (sorted rising before : List ℕ) → Rises sorted → ((id : ℕ) → copies id sorted ≡ copies id before) → Rises rising → ((id : ℕ) → copies id before ≡ copies id rising) → sorted ≡ rising
-sorted_is sorted rising before up same also e = same_rising sorted rising up also (λ id. same id ∙ e id)

@@ -2,6 +2,7 @@
 --     once b      1 where it holds, else 0
 --     copies n xs      how often a number stands in a list
 --     Rises xs      no number is above one behind it
+--     AreLowest low all      some of the numbers, of which none is above one of the others
 --     is_by now due, ids_by now dues      whether a rope is due up to a moment;  the ropes that are
 --     rows_kept now rows      the rows that are not expired
 --     expired_of now id rows      how many expired rows a rope has
@@ -14,7 +15,7 @@
 --     AreEqual graces      a rope waits equally long whichever class it lost last
 --     ShowsDue table interests now wait form d      the tables show a durable part, as far as a sweep in an area of that form looks at it
 --     due_count form d      how many ropes of a durable part are due
-use Rattle.std.specs.Prelude.{◌≡◌, ℕ, ◌+◌, ◌≤◌, ◌⊎◌, Bool, false, not, ◌&&◌, ◌==◌, nat_le, nat_eq, cond, List, [], ◌∷◌, map, filter, length, unwrap_or}
+use Rattle.std.specs.Prelude.{◌≡◌, ℕ, ◌+◌, ◌<◌, ◌≤◌, ◌⊎◌, Bool, false, not, ◌&&◌, ◌==◌, nat_le, nat_eq, cond, List, [], ◌∷◌, map, filter, length, unwrap_or}
 use Rattle.std.specs.HashMap.{HashMap, get}
 use Rattle.voice_units.specs.declared.shapes.Graces.{Graces}
 use Rattle.voice_model.specs.State.{Durable, Live, has_row}
@@ -38,6 +39,12 @@ copies n (x ∷ xs) = once (x == n) + copies n xs
 abbrev pub Rises : List ℕ → Type 0
 Rises [] = Unit {0}
 Rises (x ∷ xs) = Every (λ y. x ≤ y) xs × Rises xs
+
+-- some of the numbers, of which none is above one of the others
+pub record AreLowest (low all : List ℕ) : Type 0 where
+  pub others : List ℕ
+  pub parts : (n : ℕ) → copies n all ≡ copies n low + copies n others
+  pub below : (n : ℕ) → 0 < copies n low → Every (λ y. n ≤ y) others
 
 -- whether a rope is due up to a moment
 abbrev pub is_by : ℕ → Due → Bool

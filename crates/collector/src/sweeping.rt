@@ -1,13 +1,13 @@
 //! The ropes that a sweep removes.
 
-ghost use Rattle.std.specs.Prelude.{◌≡◌, ℕ, ◌+◌, ◌-◌, ◌≤◌, ◌&&◌, ◌==◌, nat_lt, List, length, take, IfOk, OnOk};
+ghost use Rattle.std.specs.Prelude.{◌≡◌, ℕ, ◌+◌, ◌-◌, ◌≤◌, ◌<◌, ◌&&◌, ◌==◌, nat_lt, List, length, take, IfOk, OnOk};
 ghost use Rattle.voice_units.specs.Spots.{Spot};
 ghost use Rattle.voice_model.specs.Samples.{Tagged};
 ghost use Rattle.voice_model.specs.State.{Durable};
 ghost use Rattle.voice_model.specs.Changes.{is_expired, swept_ropes};
 ghost use Rattle.rope_table.specs.Table.{index_of};
 ghost use Rattle.interest_table.specs.Table.{rows_of};
-ghost use Rattle.collector.specs.Due.{copies, once, Rises, ids_by, rows_left, is_kept, AreKept, has_only_expired, gone_ids, ShowsDue, due_count};
+ghost use Rattle.collector.specs.Due.{copies, once, Rises, AreLowest, ids_by, rows_left, is_kept, AreKept, has_only_expired, gone_ids, ShowsDue, due_count};
 
 use interest_table::{InterestTable, Row, has_expired};
 use rope_table::RopeTable;
@@ -123,13 +123,36 @@ fn sort(ropes: &mut [RopeId])
     ropes.sort_unstable_by_key(|id| id.number());
 }
 
-// The first ones of these ropes in rising number.
-fn first_of(mut ropes: Vec<RopeId>, limit: u16) -> RopeList
-    ensures { (rising : List ℕ) → Rises rising → ((id : ℕ) → copies id ropes.items ≡ copies id rising) → result ≡ take limit rising }
+// These ropes in rising number.
+fn in_order(mut ropes: Vec<RopeId>) -> RopeList
+    ensures rises { Rises result }
+    ensures same { (id : ℕ) → copies id result ≡ copies id ropes.items }
+    ensures count { length result ≡ length ropes.items }
 {
     sort(&mut ropes);
-    ropes.truncate(usize::from(limit));
     RopeList::of(ropes)
+}
+
+// So many of these ropes with the lowest numbers, in any order. It sorts none.
+fn lowest(alloc: Global, ropes: &mut [RopeId], count: usize) -> Result<Vec<RopeId>, NoMemory>
+    requires { count < length ropes.old }
+    ensures lowest { IfOk result (λ low. AreLowest low.items ropes.old) }
+    ensures count { IfOk result (λ low. length low.items ≡ count) }
+{
+    let (front, _, _) = ropes.select_nth_unstable_by_key(count, |id| id.number());
+    Ok(Vec::from_slice(alloc, front)?)
+}
+
+// The first ones of these ropes in rising number: only those are sorted.
+fn first_of(alloc: Global, mut ropes: Vec<RopeId>, limit: u16) -> Result<RopeList, NoMemory>
+    ensures { IfOk result (λ first. (rising : List ℕ) → Rises rising → ((id : ℕ) → copies id ropes.items ≡ copies id rising) → first ≡ take limit rising) }
+{
+    let count = usize::from(limit);
+    if ropes.len() <= count {
+        return Ok(in_order(ropes));
+    }
+    let low = lowest(alloc, &mut ropes, count)?;
+    Ok(in_order(low))
 }
 
 // The ropes that go, as the tables tell, in any order.
@@ -172,5 +195,5 @@ pub fn first<L: Ledger>(
 {
     let _laws = table.block();
     let gone = all_gone(alloc, table, interests, now, until, steps)?;
-    Ok(first_of(gone, limit))
+    first_of(alloc, gone, limit)
 }
