@@ -1,10 +1,11 @@
 -- Changes that are made, or none.
-use Rattle.std.proofs.Common.{◌≡◌, ℕ, suc, ◌≤◌, ◌==◌, ◌&&◌, Bool, true, false, List, [], ◌∷◌, map, length, Some, None, refl, arith}
+use Rattle.std.proofs.Common.{◌≡◌, ℕ, suc, ◌≤◌, ◌==◌, ◌&&◌, Bool, true, false, List, [], ◌∷◌, map, length, Option, Some, None, refl, arith}
 use Rattle.std.proofs.lemmas.Bool.{eqb-true}
 use Rattle.std.specs.Prelude.{Result, Ok, Err, IfOk}
 use Rattle.voice_units.specs.Spots.{Spot}
 use Rattle.voice_model.specs.State.{Durable}
 use Rattle.voice_model.specs.declared.calls.Row.{Row}
+use Rattle.voice_model.specs.declared.changes.Change.{Change}
 use Rattle.voice_model.specs.declared.changes.Change.TheVariants as changes
 use Rattle.ready_changes.specs.Ready.{IsReady, MayBeReady, census_of, sweep_of}
 use Rattle.ready_changes.specs.declared.ReadyChange.{ReadyChange}
@@ -38,3 +39,8 @@ pub sweep_some : (spare : ℕ) (d : Durable Spot) (ready : ReadyChange) (rows : 
 sweep_some spare d ready [] [] e h = cc
 sweep_some spare d ready [] (id ∷ ids) e h = h
 sweep_some spare d ready (row ∷ rows) ids e h = h
+
+-- what is ready is ready for some change
+pub some_ready : (spare : ℕ) (d : Durable Spot) (ready : ReadyChange) (o : Option Change) → MayBeReady spare d (Some ready) o → (c : Change) × IsReady spare d ready c
+some_ready spare d ready (Some c) h = (c, h)
+some_ready spare d ready None h = absurd h

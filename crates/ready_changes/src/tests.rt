@@ -1,8 +1,10 @@
 //! Changes made ready over the tables of a small disk, and what stands once they are done.
 
-ghost use Rattle.std.specs.Prelude.{◌≡◌, is_some, IfOk, Option};
+ghost use Rattle.std.specs.Prelude.{◌≡◌, true, is_some, IfOk, Option};
 ghost use Rattle.voice_model.specs.Replay.{Rebuilt, brings};
 ghost use Rattle.voice_model.specs.declared.Change.{Change};
+ghost use Rattle.voice_model.specs.declared.changes.Change.TheVariants as changes;
+ghost use Rattle.voice_model.specs.Spelling.{keeps_grammar};
 ghost use Rattle.recovery.specs.Shown.{IsParts, Rebuilds};
 ghost use Rattle.ready_changes.specs.Ready.{MayBeReady};
 
@@ -15,7 +17,7 @@ use std::alloc::Global;
 use std::marker::Brand;
 use std::sync::ledger::{Blank, Ledger};
 use std::test::Fail;
-use voice_model::{Change, KeyList, Row};
+use voice_model::{Change, Class, Key, KeyList, Row};
 use voice_units::{BadShape, Graces, Moment, NoMemory, RopeId, Shape, Steps};
 
 // Where a change may not be asked, or memory wants.
@@ -125,26 +127,50 @@ fn done(parts: &mut Parts, shape: &Shape, ready: Option<ReadyChange>) -> u64
     size
 }
 
+// The row comes, if its rope lives and its class and key do not stand.
+fn retain_row(parts: &mut Parts, alloc: Global, shape: &Shape, row: Row) -> u64
+    requires shown { IsParts shape.now parts.old }
+    requires grammar { keeps_grammar (changes.Retained row.class row.key row.rope row.note) ≡ true }
+{
+    let Some(_) = parts.ropes.wait(row.rope) else {
+        return REFUSED;
+    };
+    let None = parts.interests.find(row.class, &row.key) else {
+        return REFUSED;
+    };
+    match ready_retain(alloc, parts, row) {
+        Ok(ready) => done(parts, shape, Some(ready)),
+        Err(_) => REFUSED,
+    }
+}
+
 // The row that bytes spell comes.
 fn retain(parts: &mut Parts, alloc: Global, shape: &Shape, bytes: &[u8]) -> u64
     requires { IsParts shape.now parts.old }
 {
-    let Ok(Change::Retained(class, key, rope, note)) = get(alloc, bytes) else {
+    let Ok(change) = get(alloc, bytes) else {
         return REFUSED;
     };
-    let Some(_) = parts.ropes.wait(rope) else {
-        return REFUSED;
-    };
-    let None = parts.interests.find(class, &key) else {
-        return REFUSED;
-    };
-    let row = Row {
-        class,
-        key,
-        rope,
-        note,
-    };
-    match ready_retain(alloc, parts, row) {
+    match &change {
+        Change::Retained(class, key, rope, note) => {
+            let row = Row {
+                class: *class,
+                key: *key,
+                rope: *rope,
+                note: *note,
+            };
+            retain_row(parts, alloc, shape, row)
+        }
+        _ => REFUSED,
+    }
+}
+
+// The row of a class and key goes.
+fn forget_row(parts: &mut Parts, alloc: Global, shape: &Shape, class: Class, key: &Key) -> u64
+    requires shown { IsParts shape.now parts.old }
+    requires grammar { keeps_grammar (changes.Forgotten class key.now) ≡ true }
+{
+    match ready_forget(alloc, class, key) {
         Ok(ready) => done(parts, shape, Some(ready)),
         Err(_) => REFUSED,
     }
@@ -154,12 +180,12 @@ fn retain(parts: &mut Parts, alloc: Global, shape: &Shape, bytes: &[u8]) -> u64
 fn forget(parts: &mut Parts, alloc: Global, shape: &Shape, bytes: &[u8]) -> u64
     requires { IsParts shape.now parts.old }
 {
-    let Ok(Change::Forgotten(class, key)) = get(alloc, bytes) else {
+    let Ok(change) = get(alloc, bytes) else {
         return REFUSED;
     };
-    match ready_forget(alloc, class, &key) {
-        Ok(ready) => done(parts, shape, Some(ready)),
-        Err(_) => REFUSED,
+    match &change {
+        Change::Forgotten(class, key) => forget_row(parts, alloc, shape, *class, key),
+        _ => REFUSED,
     }
 }
 
