@@ -4,9 +4,8 @@ use Rattle.std.proofs.lemmas.Cmp.{nat_list_eq_equiv}
 use Rattle.voice_model.specs.State.{class_number, is_row, row_at}
 use Rattle.voice_model.specs.Valid.{Once}
 use Rattle.voice_model.specs.declared.calls.Row.{Row}
-use Rattle.interest_table.specs.declared.rows.RowName.{RowName}
 use Rattle.interest_table.specs.Table.{rows_of}
-use Rattle.interest_table.specs.Inside.{row_in, name_of, AreNamed}
+use Rattle.interest_table.specs.Inside.{row_in}
 use Rattle.interest_table.proofs.Found.{is_that_row}
 
 -- a rope has no more rows than there are
@@ -18,16 +17,12 @@ rows_of_most rope (row ∷ rows) = let rest = rows_of_most rope rows in either (
     either true rest = omega (arith, rest)
     either false rest = omega (arith, rest)
 
-pub rows_push : (es : List (RowName × Row)) (row : Row) → map row_in (es ++ (name_of row, row) ∷ []) ≡ map row_in es ++ row ∷ []
-rows_push [] row = refl
-rows_push (e ∷ es) row = ap (λ l. e.1 ∷ l) (rows_push es row)
-
-pub named_push : (es : List (RowName × Row)) (row : Row) → AreNamed es → AreNamed (es ++ (name_of row, row) ∷ [])
-named_push [] row h = (refl, tt)
-named_push (e ∷ es) row h = (h.0, named_push es row h.1)
+pub rows_push : (es : List (ℕ × Row)) (s : ℕ) (row : Row) → map row_in (es ++ (s, row) ∷ []) ≡ map row_in es ++ row ∷ []
+rows_push [] s row = refl
+rows_push (e ∷ es) s row = ap (λ l. e.1 ∷ l) (rows_push es s row)
 
 -- a row stands under its own class and key
-own_row : (row : Row) → is_row row.class row.key row ≡ true
+pub own_row : (row : Row) → is_row row.class row.key row ≡ true
 own_row row = ap₂ (λ a b. a && b) (eq-eqb (class_number row.class) (class_number row.class) refl) (nat_list_eq_equiv.refl row.key)
 
 -- where no row has the name of the row put last, that row has no other's name

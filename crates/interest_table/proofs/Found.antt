@@ -1,27 +1,24 @@
 -- Rows are found by class and key.
-use Rattle.std.proofs.Common.{◌≡◌, ℕ, ◌<◌, List, [], ◌∷◌, map, ap, ap₂, ◌∙◌, sym, refl, cond, Bool, true, false, ◌&&◌, ◌==◌, Option, Some, None, subst, ◌-◌, length, ◌+◌, ◌≤◌, suc, arith}
+use Rattle.std.proofs.Common.{◌≡◌, ℕ, List, [], ◌∷◌, ap, ap₂, ◌∙◌, sym, refl, cond, Bool, true, false, ◌==◌, Option, Some, None, ◌-◌, ◌+◌, arith}
 use Rattle.std.proofs.lemmas.Bool.{eqb-true, and_parts}
 use Rattle.std.specs.Prelude.{bytes_eq, not, filter}
-use Rattle.std.specs.Map.{lookup, remove_entry}
 use Rattle.std.specs.Cmp.Lexicographic.{same_text}
 use Rattle.std.proofs.lemmas.Cmp.{nat_list_eq_equiv}
 use Rattle.voice_model.specs.State.{class_number, is_row, row_at}
 use Rattle.voice_model.specs.declared.calls.Row.{Row}
 use Rattle.voice_model.specs.declared.calls.Class.{Class}
 use Rattle.voice_model.specs.declared.calls.Class.TheVariants.{Held, Until, Listed}
-use Rattle.interest_table.specs.declared.rows.RowName.{RowName}
-use Rattle.interest_table.specs.contracts.rows.RowNamePartialEq.TheImpl as eq_impl
+use Rattle.interest_table.specs.declared.listing.RowName.{RowName}
+use Rattle.interest_table.specs.contracts.listing.RowNamePartialEq.TheImpl as eq_impl
 use Rattle.std.specs.Prelude.{unwrap_or, nat_eq, is_ok, OnOk, Result, Ok, Err}
-use Rattle.std.proofs.Common.{◌^◌}
 use Rattle.indexmap.specs.IndexMap as index
 use Rattle.voice_model.specs.Valid.{Once}
-use Rattle.interest_table.specs.declared.tally.Tally.{Tally}
-use Rattle.interest_table.specs.Table.{rows_of, key_bytes_of, note_bytes_of}
-use Rattle.interest_table.specs.Inside.{row_in, name_of, AreNamed, AreShort, IsTable, rows_counted}
+use Rattle.interest_table.specs.Table.{rows_of}
+use Rattle.interest_table.specs.Inside.{same_name, rows_counted}
 
 -- the comparison of names, as derived
-abbrev pub same_name : RowName → RowName → Bool
-same_name = (eq_impl.ghosts).eq
+abbrev pub eq_name : RowName → RowName → Bool
+eq_name = (eq_impl.ghosts).eq
 
 pub both_ways : (a b : Bool) → (a ≡ true → b ≡ true) → (b ≡ true → a ≡ true) → a ≡ b
 both_ways true b f g = sym (f refl)
@@ -33,7 +30,7 @@ turned x y = both_ways _ _
     (λ h. let same : x ≡ y = same_text x y (sym h) in ap (bytes_eq y) same ∙ nat_list_eq_equiv.refl y)
     (λ h. let same : y ≡ x = same_text y x (sym h) in ap (bytes_eq x) same ∙ nat_list_eq_equiv.refl x)
 
-same_names : (a b : Class) (x y : List ℕ) → same_name (record { class = a; key = x }) (record { class = b; key = y }) ≡ ((class_number b == class_number a) && bytes_eq y x)
+same_names : (a b : Class) (x y : List ℕ) → eq_name (record { class = a; key = x }) (record { class = b; key = y }) ≡ same_name a x b y
 same_names Held Held x y = turned x y
 same_names Held Until x y = refl
 same_names Held Listed x y = refl
@@ -44,26 +41,8 @@ same_names Listed Held x y = refl
 same_names Listed Until x y = refl
 same_names Listed Listed x y = turned x y
 
-pub tested : (class : Class) (key : List ℕ) (row : Row) → same_name (record { class = class; key = key }) (name_of row) ≡ is_row class key row
-tested class key row = same_names class row.class key row.key
-
-pub lookup_is : (test : RowName → Bool) (class : Class) (key : List ℕ) → ((row : Row) → test (name_of row) ≡ is_row class key row) → (es : List (RowName × Row)) → AreNamed es → lookup test es ≡ row_at (map row_in es) class key
-lookup_is test class key agree [] h = refl
-lookup_is test class key agree (e ∷ es) h =
-    ap (λ b. cond b (Some e.1) (lookup test es)) (ap test h.0 ∙ agree e.1) ∙ ap (λ o. cond (is_row class key e.1) (Some e.1) o) (lookup_is test class key agree es h.1)
-
-pub still_table : {S : Type 0} (rows new : index.IndexMap RowName Row S) (tally tallied : Tally) → IsTable rows tally → new.entries ≡ rows.entries → tallied.counts.entries ≡ tally.counts.entries → tallied.key_bytes ≡ tally.key_bytes → tallied.note_bytes ≡ tally.note_bytes → IsTable new tallied
-still_table rows new tally tallied h e f keys notes = record {
-  named = subst AreNamed (sym e) h.named;
-  once = subst (λ es. Once (map row_in es)) (sym e) h.once;
-  told = record {
-    counts = λ rope. ap (λ es. unwrap_or (lookup (nat_eq rope) es) 0) f ∙ h.told.counts rope ∙ ap (λ es. rows_of rope (map row_in es)) (sym e);
-    keys = keys ∙ h.told.keys ∙ ap (λ es. key_bytes_of (map row_in es)) (sym e);
-    notes = notes ∙ h.told.notes ∙ ap (λ es. note_bytes_of (map row_in es)) (sym e);
-  };
-  short = subst (λ es. AreShort (map row_in es)) (sym e) h.short;
-  few = subst (λ es. length es < 2 ^ 32) (sym e) h.few;
-}
+pub named_as : (class : Class) (key : List ℕ) (name : RowName) → eq_name (record { class = class; key = key }) name ≡ same_name class key name.class name.key
+named_as class key name = same_names class name.class key name.key
 
 -- ---- a row goes
 
@@ -94,20 +73,6 @@ all_stay class key (row ∷ rows) h = stay class key row rows (is_row class key 
 -- a row of this class and key has them
 pub is_that_row : (class : Class) (key : List ℕ) (row : Row) → is_row class key row ≡ true → (row.class ≡ class) × (row.key ≡ key)
 is_that_row class key row h = let parts = and_parts _ _ h in (same_class row.class class parts.0, same_text row.key key (sym parts.1))
-
-one_removed : (test : RowName → Bool) (class : Class) (key : List ℕ) (e : RowName × Row) (es : List (RowName × Row)) (a b : Bool) → a ≡ b → is_row class key e.1 ≡ b → Once (map row_in (e ∷ es)) → map row_in (remove_entry test es) ≡ others class key (map row_in es) → map row_in (cond a es (e ∷ remove_entry test es)) ≡ cond (not b) (e.1 ∷ others class key (map row_in es)) (others class key (map row_in es))
-one_removed test class key e es true true s is once rest =
-    let that = is_that_row class key e.1 is in
-    sym (all_stay class key (map row_in es) (sym (ap₂ (λ c k. row_at (map row_in es) c k) that.0 that.1) ∙ once.0))
-one_removed test class key e es false false s is once rest = ap (λ l. e.1 ∷ l) rest
-one_removed test class key e es true false s is once rest = cc
-one_removed test class key e es false true s is once rest = cc
-
--- taking out the first entry of a name takes out all rows of it
-pub remove_is : (test : RowName → Bool) (class : Class) (key : List ℕ) → ((row : Row) → test (name_of row) ≡ is_row class key row) → (es : List (RowName × Row)) → AreNamed es → Once (map row_in es) → map row_in (remove_entry test es) ≡ others class key (map row_in es)
-remove_is test class key agree [] h once = refl
-remove_is test class key agree (e ∷ es) h once =
-    one_removed test class key e es (test e.0) (is_row class key e.1) (ap test h.0 ∙ agree e.1) refl once (remove_is test class key agree es h.1 once.1)
 
 -- ---- how many rows a rope has
 
@@ -160,19 +125,3 @@ once_either class key r rows false none rest = (none, rest)
 pub once_after : (class : Class) (key : List ℕ) (rows : List Row) → Once rows → Once (others class key rows)
 once_after class key [] h = tt
 once_after class key (r ∷ rows) h = once_either class key r rows (is_row class key r) (none_after class key r.class r.key rows h.0) (once_after class key rows h.1)
-
-named_either : (b : Bool) (xs ys : List (RowName × Row)) → AreNamed xs → AreNamed ys → AreNamed (cond b xs ys)
-named_either true xs ys p q = p
-named_either false xs ys p q = q
-
-pub named_after : (test : RowName → Bool) (es : List (RowName × Row)) → AreNamed es → AreNamed (remove_entry test es)
-named_after test [] h = h
-named_after test (e ∷ es) h = named_either (test e.0) es (e ∷ remove_entry test es) h.1 (h.0, named_after test es h.1)
-
-fewer_either : {X : Type 0} (b : Bool) (xs ys : List X) (n : ℕ) → length xs ≤ n → length ys ≤ n → length (cond b xs ys) ≤ n
-fewer_either true xs ys n p q = p
-fewer_either false xs ys n p q = q
-
-pub fewer_after : (test : RowName → Bool) (es : List (RowName × Row)) → length (remove_entry test es) ≤ length es
-fewer_after test [] = omega arith
-fewer_after test (e ∷ es) = let rest = fewer_after test es in fewer_either (test e.0) es (e ∷ remove_entry test es) (suc (length es)) (omega arith) (omega (arith, rest))

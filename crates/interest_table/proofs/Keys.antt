@@ -1,9 +1,9 @@
 -- The keys of the rows that go.
-use Rattle.std.proofs.Common.{◌≡◌, ℕ, ◌<◌, ◌≤◌, ◌+◌, ◌*◌, ◌-◌, suc, zero, List, [], ◌∷◌, ◌++◌, map, take, drop, filter, length, fold, ap, ◌∙◌, sym, refl, subst, cond, Bool, true, false, nat_le, get_or, not, ◌&&◌, ◌==◌, arith}
+use Rattle.std.proofs.Common.{◌≡◌, ℕ, ◌<◌, ◌≤◌, ◌+◌, ◌*◌, ◌-◌, suc, zero, List, [], ◌∷◌, ◌++◌, map, take, drop, filter, length, fold, ap, ◌∙◌, sym, refl, subst, cond, Bool, true, false, nat_le, get_or, not, ◌&&◌, ◌==◌, Option, Some, None, arith}
 use Rattle.std.proofs.lemmas.List.{append_assoc, append-nil, take-append-drop}
 use Rattle.std.proofs.lemmas.Bool.{lt-leb}
 use Rattle.std.proofs.lemmas.List.Sums.{fold-append, fold_more}
-use Rattle.std.specs.Prelude.{bytes_eq, Result, Ok, Err, IfOk}
+use Rattle.std.specs.Prelude.{bytes_eq, Result, Ok, Err, IfOk, slice_get, unwrap_or}
 use Rattle.std.specs.List.{list_any}
 use Rattle.std.specs.HashSet as bag
 use Rattle.voice_model.specs.State.{class_number}
@@ -57,6 +57,61 @@ key_taken test most row left before keys new all passes is room pushed long so_f
 take_none : {A : Type 0} (n : ℕ) → take {A = A} n [] ≡ []
 take_none zero = refl
 take_none (suc n) = refl
+
+-- a row that fails the test gives no key
+pub key_passed : (test : Row → Bool) (n : ℕ) (row : Row) (left before : List Row) (keys all : List (List ℕ)) → test row ≡ false → before ≡ row ∷ left → keys ++ first_keys test n before ≡ all → keys ++ first_keys test n left ≡ all
+key_passed test n row left before keys all fails is so_far =
+    ap (λ l. keys ++ map (λ (row : Row). row.key) (take n l)) (sym (ap (filter test) is ∙ ap (λ b. cond b (row ∷ filter test left) (filter test left)) fails)) ∙ so_far
+
+-- where all keys are had, rows give no more
+pub keys_full : (test : Row → Bool) (most : ℕ) (left before : List Row) (keys all : List (List ℕ)) → most ≤ length keys → keys ++ first_keys test (most - length keys) before ≡ all → keys ++ first_keys test (most - length keys) left ≡ all
+keys_full test most left before keys all full so_far =
+    let none : most - length keys ≡ 0 = omega (arith, full) in
+    ap (λ n. keys ++ first_keys test n left) none ∙ sym (ap (λ n. keys ++ first_keys test n before) none) ∙ so_far
+
+-- the keys of all rows that pass a test
+abbrev pub test_keys : (Row → Bool) → List Row → List (List ℕ)
+test_keys test rows = map (λ row. row.key) (filter test rows)
+
+pub key_next : (test : Row → Bool) (row : Row) (left before : List Row) (keys new all : List (List ℕ)) → test row ≡ true → before ≡ row ∷ left → new ≡ keys ++ row.key ∷ [] → keys ++ test_keys test before ≡ all → new ++ test_keys test left ≡ all
+key_next test row left before keys new all passes is pushed so_far =
+    ap (λ l. l ++ test_keys test left) pushed ∙ push_front keys row.key (test_keys test left)
+    ∙ ap (λ l. keys ++ map (λ (row : Row). row.key) l) (sym (ap (filter test) is ∙ ap (λ b. cond b (row ∷ filter test left) (filter test left)) passes)) ∙ so_far
+
+pub key_not : (test : Row → Bool) (row : Row) (left before : List Row) (keys all : List (List ℕ)) → test row ≡ false → before ≡ row ∷ left → keys ++ test_keys test before ≡ all → keys ++ test_keys test left ≡ all
+key_not test row left before keys all fails is so_far =
+    ap (λ l. keys ++ map (λ (row : Row). row.key) l) (sym (ap (filter test) is ∙ ap (λ b. cond b (row ∷ filter test left) (filter test left)) fails)) ∙ so_far
+
+-- ---- the rows from a place on
+
+pub drop_here : (rows : List Row) (k j : ℕ) (row : Row) → j ≡ suc k → slice_get rows k ≡ Some row → drop k rows ≡ row ∷ drop j rows
+drop_here rows k j row is at = from rows k row at ∙ ap (λ n. row ∷ drop n rows) (sym is)
+  where
+    from : (rows : List Row) (k : ℕ) (row : Row) → slice_get rows k ≡ Some row → drop k rows ≡ row ∷ drop (suc k) rows
+    from [] k row at = cc
+    from (x ∷ xs) zero row at = ap (λ (r : Row). r ∷ xs) (ap (λ (o : Option Row). unwrap_or o x) at)
+    from (x ∷ xs) (suc k) row at = from xs k row at
+
+pub drop_none : (rows : List Row) (k : ℕ) → slice_get rows k ≡ None → drop k rows ≡ []
+drop_none [] zero at = refl
+drop_none [] (suc k) at = refl
+drop_none (x ∷ xs) zero at = cc
+drop_none (x ∷ xs) (suc k) at = drop_none xs k at
+
+pub drop_none_more : (rows : List Row) (k j : ℕ) → j ≡ suc k → slice_get rows k ≡ None → drop j rows ≡ drop k rows
+drop_none_more rows k j is at = ap (λ n. drop n rows) is ∙ from rows k at
+  where
+    from : (rows : List Row) (k : ℕ) → slice_get rows k ≡ None → drop (suc k) rows ≡ drop k rows
+    from [] zero at = refl
+    from [] (suc k) at = refl
+    from (x ∷ xs) zero at = cc
+    from (x ∷ xs) (suc k) at = from xs k at
+
+pub drop_all : {A : Type 0} (xs : List A) (k : ℕ) → length xs ≤ k → drop k xs ≡ []
+drop_all [] zero h = refl
+drop_all [] (suc k) h = refl
+drop_all (x ∷ xs) zero h = absurd (omega (arith, h))
+drop_all (x ∷ xs) (suc k) h = drop_all xs k (omega (arith, h))
 
 -- where no row is left, the keys so far are all
 pub none_left : (test : Row → Bool) (n : ℕ) (left : List Row) (keys all : List (List ℕ)) → left ≡ [] → keys ++ first_keys test n left ≡ all → keys ≡ all

@@ -2,3 +2,5 @@ pub mod Found
 pub mod Added
 pub mod Keys
 pub mod Told
+pub mod Listed
+pub mod Goes

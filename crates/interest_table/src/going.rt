@@ -4,7 +4,6 @@ ghost use Rattle.std.specs.Prelude.{◌≡◌, ℕ, List, nat_le, bytes_eq, IfOk
 ghost use Rattle.std.specs.List.{list_any};
 ghost use Rattle.voice_model.specs.State.{spelled_number};
 ghost use Rattle.voice_model.specs.Changes.{is_expired, is_unlisted};
-ghost use Rattle.interest_table.specs.Table.{is_named};
 
 use std::alloc::{AllocError, Global};
 use std::collections::HashSet;
@@ -52,14 +51,4 @@ pub(crate) fn is_absent(row: &Row, named: &HashSet<Key>) -> bool
     ensures { result ≡ is_unlisted named.now.keys row.now }
 {
     matches!(row.class, Class::Listed) && !named.contains(&row.key)
-}
-
-/// Whether a row is of this class and has one of these keys.
-pub(crate) fn has_key_among(row: &Row, class: Class, keys: &HashSet<Key>) -> bool
-    ensures { result ≡ is_named class keys.now.keys row.now }
-{
-    if row.class != class {
-        return false;
-    }
-    keys.contains(&row.key)
 }

@@ -2,6 +2,7 @@
 #![tactic(auto)]
 
 mod going;
+mod listing;
 mod rows;
 mod tally;
 

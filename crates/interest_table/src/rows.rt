@@ -1,12 +1,12 @@
 //! The table of interests.
 
-ghost use Rattle.std.specs.Prelude.{◌≡◌, ◌<◌, ◌≤◌, ◌+◌, ◌^◌, ◌++◌, ◌∷◌, ◌↔◌, ℕ, [], length, not, filter, map, slice_get, IfOk, OnOk, OnErr, IsOk, option_copied, ◌≢◌, Err, IsSomeAnd, IsTrue};
+ghost use Rattle.std.specs.Prelude.{◌≡◌, ◌<◌, ◌≤◌, ◌+◌, ◌^◌, ◌++◌, ◌∷◌, ◌↔◌, ℕ, [], length, not, filter, slice_get, IfOk, OnOk, OnErr, IsOk, option_copied, ◌≢◌, Err, IsSomeAnd, IsTrue};
 ghost use Rattle.voice_model.specs.State.{is_row, row_at};
 ghost use Rattle.voice_model.specs.Changes.{is_expired, unlisted_keys};
 ghost use Rattle.interest_table.specs.Table.{expired_keys, rows_of, key_bytes_of, note_bytes_of, is_named};
-ghost use Rattle.interest_table.specs.Inside.{row_in, Lost};
 
-use crate::going::{has_expired, has_key_among, is_absent, key_set};
+use crate::going::{has_expired, is_absent, key_set};
+use crate::listing::Listing;
 use crate::tally::{Tally, copy_of, count_of, gain, lose};
 use indexmap::IndexMap;
 use std::alloc::Global;
@@ -14,13 +14,6 @@ use std::collections::HashSet;
 use std::marker::Model;
 use voice_model::{Class, Key, KeyList, Row};
 use voice_units::{Moment, NoMemory, RopeId};
-
-/// Under what a row stands: at most one row has a given class and key.
-#[derive(Clone, Copy, PartialEq, Eq, Hash)]
-struct RowName {
-    class: Class,
-    key: Key,
-}
 
 /// Why a row is not added.
 #[derive(Clone, Copy, Debug, PartialEq, Eq)]
@@ -33,7 +26,7 @@ pub enum AddError {
 /// The interests, in order of making. Contracts see the list of rows, and how many more fit without memory.
 #[derive(Drop)]
 pub struct InterestTable {
-    rows: IndexMap<RowName, Row>,
+    listing: Listing,
     tally: Tally,
 }
 
@@ -43,38 +36,9 @@ impl Model for InterestTable {
 
     ghost Value = { Table };
 
-    ghost view = { λ t. seen t.rows t.tally };
+    ghost view = { λ t. seen t.listing t.tally };
 
-    ghost invariant = { λ t. IsTable t.rows t.tally };
-}
-
-/// Counts the rows that are expired as gone.
-fn lose_expired(rows: &IndexMap<RowName, Row>, tally: &mut Tally, now: Moment)
-    ensures { Lost tally.old tally.new (filter (is_expired now) (map row_in rows.now.entries)) }
-{
-    for row in rows.values() {
-        if has_expired(row, now) {
-            lose(tally, row);
-        }
-    }
-}
-
-/// Counts the rows of a class with these keys as gone.
-fn lose_named(rows: &IndexMap<RowName, Row>, tally: &mut Tally, class: Class, keys: &HashSet<Key>)
-    ensures { Lost tally.old tally.new (filter (is_named class keys.now.keys) (map row_in rows.now.entries)) }
-{
-    for row in rows.values() {
-        if has_key_among(row, class, keys) {
-            lose(tally, row);
-        }
-    }
-}
-
-/// The same rows.
-fn copy_rows(rows: &IndexMap<RowName, Row>) -> Result<IndexMap<RowName, Row>, NoMemory>
-    ensures { IfOk result (λ copy. copy.entries ≡ rows.now.entries) }
-{
-    Ok(rows.clone()?)
+    ghost invariant = { λ t. IsTable t.listing t.tally };
 }
 
 impl InterestTable {
@@ -83,7 +47,7 @@ impl InterestTable {
         ensures { result.rows ≡ [] }
     {
         InterestTable {
-            rows: IndexMap::new(alloc),
+            listing: Listing::new(alloc),
             tally: Tally {
                 counts: IndexMap::new(alloc),
                 key_bytes: 0,
@@ -99,7 +63,7 @@ impl InterestTable {
         ensures spare { self.old.spare ≤ self.new.spare }
         ensures succeeds { n ≤ self.old.spare → IsOk result }
     {
-        self.rows.reserve(n as usize)?;
+        self.listing.reserve(n)?;
         self.tally.counts.reserve(n as usize)?;
         Ok(())
     }
@@ -108,7 +72,7 @@ impl InterestTable {
     pub fn find(&self, class: Class, key: &Key) -> Option<&Row>
         ensures { option_copied result ≡ row_at self.now.rows class key.now }
     {
-        self.rows.get(&RowName { class, key: *key })
+        self.listing.find(class, key)
     }
 
     /// How many rows a rope has. They are kept counted.
@@ -122,17 +86,16 @@ impl InterestTable {
     pub fn row(&self, k: u32) -> Option<&Row>
         ensures { option_copied result ≡ slice_get self.now.rows k }
     {
-        let (_, row) = self.rows.get_index(k as usize)?;
-        Some(row)
+        self.listing.row(k as usize)
     }
 
-    /// Takes out the row of a class and key, and keeps the order of the rest. The rows behind it move up, so the cost grows with their number; `drop_expired` and `remove_all` take out many rows at the cost of one pass.
+    /// Takes out the row of a class and key, and keeps the order of the rest, whose rows stay where they are.
     pub fn remove(&mut self, class: Class, key: &Key) -> Option<Row>
         ensures value { result ≡ row_at self.old.rows class key.now }
         ensures rows { self.new.rows ≡ filter (λ row. not (is_row class key.now row)) self.old.rows }
         ensures spare { self.old.spare ≤ self.new.spare }
     {
-        let Some(row) = self.rows.shift_remove(&RowName { class, key: *key }) else {
+        let Some(row) = self.listing.remove(class, key) else {
             return None;
         };
         lose(&mut self.tally, &row);
@@ -144,25 +107,29 @@ impl InterestTable {
         ensures rows { self.new.rows ≡ filter (λ row. not (is_expired now row)) self.old.rows }
         ensures spare { self.old.spare ≤ self.new.spare }
     {
-        lose_expired(&self.rows, &mut self.tally, now);
-        self.rows.retain(
-            |_name: &RowName, row: &mut Row| -> bool
-                ensures { (result ≡ not (is_expired now row.old)) × (row.new ≡ row.old) }
-            { !has_expired(row, now) },
-        );
+        let mut k = self.listing.len();
+        while k > 0 {
+            k -= 1;
+            let Some(row) = self.listing.row(k) else {
+                continue;
+            };
+            if !has_expired(row, now) {
+                continue;
+            }
+            let class = row.class;
+            let key = row.key;
+            self.remove(class, &key);
+        }
     }
 
-    /// Takes out the rows of a class with these keys, and keeps the order of the rest. It goes over all rows, however many go, and takes no memory; `key_set` makes the set.
+    /// Takes out the rows of a class with these keys, and keeps the order of the rest. It finds each key's row, and takes no memory; `key_set` makes the set.
     pub fn remove_all(&mut self, class: Class, keys: &HashSet<Key>)
         ensures rows { self.new.rows ≡ filter (λ row. not (is_named class keys.now.keys row)) self.old.rows }
         ensures spare { self.old.spare ≤ self.new.spare }
     {
-        lose_named(&self.rows, &mut self.tally, class, keys);
-        self.rows.retain(
-            |_name: &RowName, row: &mut Row| -> bool
-                ensures { (result ≡ not (is_named class keys.entry.now.keys row.old)) × (row.new ≡ row.old) }
-            { !has_key_among(row, class, keys) },
-        );
+        for key in keys {
+            self.remove(class, key);
+        }
     }
 
     /// How many bytes the keys of all rows have. They are kept counted.
@@ -183,7 +150,7 @@ impl InterestTable {
     pub fn is_full(&self) -> bool
         ensures { IsTrue result ↔ (2 ^ 32 ≤ length self.now.rows + 1) }
     {
-        self.rows.len() >= u32::MAX as usize
+        self.listing.len() >= u32::MAX as usize
     }
 
     /// Puts a row last; `Taken` exactly where its class and key stand. After either error the rows are as before. It takes no memory where there is spare room.
@@ -198,19 +165,13 @@ impl InterestTable {
         if let Some(other) = self.find(row.class, &row.key) {
             return Err(AddError::Taken(other.rope));
         }
-        let Ok(()) = self.rows.reserve(1) else {
+        let Ok(()) = self.listing.reserve(1) else {
             return Err(AddError::NoMemory);
         };
         let Ok(()) = gain(&mut self.tally, &row) else {
             return Err(AddError::NoMemory);
         };
-        let name = RowName {
-            class: row.class,
-            key: row.key,
-        };
-        let Ok(_) = self.rows.insert(name, row) else {
-            return Err(AddError::NoMemory);
-        };
+        self.listing.put(row);
         Ok(())
     }
 
@@ -218,11 +179,15 @@ impl InterestTable {
     pub fn obsolete_until(&self, moment: Moment) -> Result<KeyList, NoMemory>
         ensures { IfOk result (λ keys. keys ≡ expired_keys moment self.now.rows) }
     {
-        let mut keys = Vec::new(*self.rows.allocator());
-        for row in self.rows.values() {
-            if has_expired(row, moment) {
-                keys.push(row.key)?;
+        let mut keys = Vec::new(self.listing.allocator());
+        for k in 0..self.listing.len() {
+            let Some(row) = self.listing.row(k) else {
+                continue;
+            };
+            if !has_expired(row, moment) {
+                continue;
             }
+            keys.push(row.key)?;
         }
         Ok(KeyList::of(keys))
     }
@@ -231,13 +196,20 @@ impl InterestTable {
     pub fn obsolete_listed(&self, census: &KeyList) -> Result<KeyList, NoMemory>
         ensures { IfOk result (λ keys. keys ≡ unlisted_keys self.now.rows census.now) }
     {
-        let alloc = *self.rows.allocator();
+        let alloc = self.listing.allocator();
         let named = key_set(alloc, census.items())?;
         let mut keys = Vec::new(alloc);
-        for row in self.rows.values() {
-            if keys.len() < 65_535 && is_absent(row, &named) {
-                keys.push(row.key)?;
+        for k in 0..self.listing.len() {
+            let Some(row) = self.listing.row(k) else {
+                continue;
+            };
+            if keys.len() >= 65_535 {
+                continue;
             }
+            if !is_absent(row, &named) {
+                continue;
+            }
+            keys.push(row.key)?;
         }
         Ok(KeyList::of(keys))
     }
@@ -246,8 +218,8 @@ impl InterestTable {
     pub fn copy(&self) -> Result<InterestTable, NoMemory>
         ensures { IfOk result (λ copy. copy.rows ≡ self.now.rows) }
     {
-        let rows = copy_rows(&self.rows)?;
+        let listing = self.listing.copy()?;
         let tally = copy_of(&self.tally)?;
-        Ok(InterestTable { rows, tally })
+        Ok(InterestTable { listing, tally })
     }
 }

@@ -1,0 +1,237 @@
+//! Rows in order of making, each under a stamp that rises: a row goes without moving those behind it.
+
+ghost use Rattle.std.specs.Prelude.{◌≡◌, ℕ, ◌<◌, ◌≤◌, ◌+◌, ◌^◌, ◌++◌, ◌∷◌, [], List, Bool, true, None, Some, cond, length, not, filter, map, slice_get, remove, nat_eq, option_copied, IfNone, IfOk, OnOk, IsOk};
+ghost use Rattle.indexmap.specs.IndexMap.{get, spare};
+ghost use Rattle.voice_model.specs.State.{is_row, row_at};
+ghost use Rattle.voice_model.specs.declared.calls.Class.{Class as AnyClass};
+ghost use Rattle.interest_table.specs.Inside.{row_in, same_name, stamp_at, among, without, Rises};
+
+use counted_row::CountedRow;
+use indexmap::IndexMap;
+use std::alloc::Global;
+use std::marker::Model;
+use voice_model::{Class, Key, Row};
+use voice_units::NoMemory;
+
+/// How many stamps there are.
+const STAMPS: u64 = 1 << 63;
+
+/// Under what a row stands: at most one row has a given class and key.
+#[derive(Clone, Copy, PartialEq, Eq, Hash)]
+pub(crate) struct RowName {
+    class: Class,
+    key: Key,
+}
+
+/// Rows in order of making. Contracts see them with their stamps.
+#[derive(Drop)]
+pub(crate) struct Listing {
+    names: IndexMap<RowName, u64>,
+    rows: IndexMap<u64, Row>,
+    order: CountedRow<u64>,
+    next: u64,
+}
+
+impl Model for Listing {
+    ghost use Rattle.std.specs.Prelude.{nat_eq};
+    ghost use Rattle.indexmap.specs.IndexMap.{get};
+    ghost use Rattle.interest_table.specs.Inside as inside;
+
+    ghost Value = { inside.Listing };
+
+    ghost view = { λ l. inside.listed l.names l.rows l.order l.next };
+
+    ghost invariant = { λ l. inside.IsListing (inside.stamp_at l.names) (get nat_eq l.rows) l.order.items l.next };
+}
+
+/// The stamp under a class and key.
+fn stamp_of(names: &IndexMap<RowName, u64>, class: Class, key: &Key) -> Option<u64>
+    ensures { result ≡ stamp_at names.now class key.now }
+{
+    names.get(&RowName { class, key: *key }).copied()
+}
+
+/// Takes out the stamp under a class and key.
+fn take_name(names: &mut IndexMap<RowName, u64>, class: Class, key: &Key) -> Option<u64>
+    ensures value { result ≡ stamp_at names.old class key.now }
+    ensures names { (other : AnyClass) (text : List ℕ) → stamp_at names.new other text ≡ cond (same_name class key.now other text) None (stamp_at names.old other text) }
+    ensures absent { IfNone result (names.new.entries ≡ names.old.entries) }
+    ensures spare { spare names.old ≤ spare names.new }
+{
+    names.swap_remove(&RowName { class, key: *key })
+}
+
+/// Puts a stamp under a class and key, where there is room.
+fn put_name(names: &mut IndexMap<RowName, u64>, class: Class, key: &Key, stamp: u64)
+    requires { 0 < spare names.old }
+    ensures names { (other : AnyClass) (text : List ℕ) → stamp_at names.new other text ≡ cond (same_name class key.now other text) (Some stamp) (stamp_at names.old other text) }
+    ensures spare { spare names.old ≤ spare names.new + 1 }
+{
+    let Ok(_) = names.insert(RowName { class, key: *key }, stamp) else {
+        return;
+    };
+}
+
+/// Puts a row under a stamp, where there is room.
+fn put_row(rows: &mut IndexMap<u64, Row>, stamp: u64, row: Row)
+    requires { 0 < spare rows.old }
+    ensures rows { (other : ℕ) → get nat_eq rows.new other ≡ cond (nat_eq stamp other) (Some row) (get nat_eq rows.old other) }
+    ensures spare { spare rows.old ≤ spare rows.new + 1 }
+{
+    let Ok(_) = rows.insert(stamp, row) else {
+        return;
+    };
+}
+
+/// Puts a stamp last, where there is room.
+fn put_stamp(order: &mut CountedRow<u64>, stamp: u64)
+    requires { 0 < order.old.spare }
+    ensures items { order.new.items ≡ order.old.items ++ stamp ∷ [] }
+    ensures spare { order.old.spare ≤ order.new.spare + 1 }
+{
+    let Ok(()) = order.push(stamp) else {
+        return;
+    };
+}
+
+/// Takes out a stamp that is there.
+fn take_stamp(order: &mut CountedRow<u64>, stamp: u64)
+    ensures items { (top : ℕ) → Rises 0 order.old.items top → among stamp order.old.items ≡ true → order.new.items ≡ without stamp order.old.items }
+    ensures spare { order.old.spare ≤ order.new.spare }
+{
+    let place = order.partition_point(|other| *other < stamp);
+    order.remove(place);
+}
+
+/// The same stamps under names.
+fn copied_names(names: &IndexMap<RowName, u64>) -> Result<IndexMap<RowName, u64>, NoMemory>
+    ensures { IfOk result (λ copy. copy.entries ≡ names.now.entries) }
+{
+    Ok(names.clone()?)
+}
+
+/// The same rows under stamps.
+fn copied_rows(rows: &IndexMap<u64, Row>) -> Result<IndexMap<u64, Row>, NoMemory>
+    ensures { IfOk result (λ copy. copy.entries ≡ rows.now.entries) }
+{
+    Ok(rows.clone()?)
+}
+
+/// The same stamps in order.
+fn copied(alloc: Global, order: &CountedRow<u64>) -> Result<CountedRow<u64>, NoMemory>
+    ensures { IfOk result (λ copy. copy.items ≡ order.now.items) }
+{
+    let mut copy = CountedRow::new(alloc);
+    copy.reserve(order.len())?;
+    for k in 0..order.len() {
+        let Some(stamp) = order.get(k) else {
+            return Err(NoMemory);
+        };
+        copy.push(*stamp)?;
+    }
+    Ok(copy)
+}
+
+impl Listing {
+    /// No row. It takes no memory.
+    pub(crate) fn new(alloc: Global) -> Listing
+        ensures { result.entries ≡ [] }
+    {
+        Listing {
+            names: IndexMap::new(alloc),
+            rows: IndexMap::new(alloc),
+            order: CountedRow::new(alloc),
+            next: 0,
+        }
+    }
+
+    /// The allocator of all parts.
+    pub(crate) fn allocator(&self) -> Global {
+        *self.names.allocator()
+    }
+
+    /// How many rows there are.
+    pub(crate) fn len(&self) -> usize
+        ensures { result ≡ length self.now.entries }
+    {
+        self.order.len()
+    }
+
+    /// The row of a class and key.
+    pub(crate) fn find(&self, class: Class, key: &Key) -> Option<&Row>
+        ensures { option_copied result ≡ row_at (map row_in self.now.entries) class key.now }
+    {
+        let Some(stamp) = stamp_of(&self.names, class, key) else {
+            return None;
+        };
+        self.rows.get(&stamp)
+    }
+
+    /// The k-th row.
+    pub(crate) fn row(&self, k: usize) -> Option<&Row>
+        ensures { option_copied result ≡ slice_get (map row_in self.now.entries) k }
+    {
+        let Some(stamp) = self.order.get(k) else {
+            return None;
+        };
+        self.rows.get(stamp)
+    }
+
+    /// Takes out the row of a class and key.
+    pub(crate) fn remove(&mut self, class: Class, key: &Key) -> Option<Row>
+        ensures value { result ≡ row_at (map row_in self.old.entries) class key.now }
+        ensures entries { self.new.entries ≡ filter (λ e. not (is_row class key.now e.1)) self.old.entries }
+        ensures spare { self.old.spare ≤ self.new.spare }
+    {
+        let Some(stamp) = take_name(&mut self.names, class, key) else {
+            return None;
+        };
+        take_stamp(&mut self.order, stamp);
+        self.rows.swap_remove(&stamp)
+    }
+
+    /// Makes room for n more rows. It takes no memory where that room is there.
+    pub(crate) fn reserve(&mut self, n: u32) -> Result<(), NoMemory>
+        ensures entries { self.new.entries ≡ self.old.entries }
+        ensures room { OnOk result (n ≤ self.new.spare) }
+        ensures spare { self.old.spare ≤ self.new.spare }
+        ensures succeeds { n ≤ self.old.spare → IsOk result }
+    {
+        if u64::from(n) > STAMPS - self.next {
+            return Err(NoMemory);
+        }
+        self.names.reserve(n as usize)?;
+        self.rows.reserve(n as usize)?;
+        self.order.reserve(n as usize)?;
+        Ok(())
+    }
+
+    /// Puts a row last whose class and key do not stand, where there is room.
+    pub(crate) fn put(&mut self, row: Row)
+        requires fresh { row_at (map row_in self.old.entries) row.class row.key ≡ None }
+        requires room { 0 < self.old.spare }
+        ensures entries { self.new.entries ≡ self.old.entries ++ (self.old.next, row) ∷ [] }
+        ensures spare { self.old.spare ≤ self.new.spare + 1 }
+    {
+        let stamp = self.next;
+        put_name(&mut self.names, row.class, &row.key, stamp);
+        put_row(&mut self.rows, stamp, row);
+        put_stamp(&mut self.order, stamp);
+        self.next += 1;
+    }
+
+    /// Equal rows. Of their spare room nothing is said.
+    pub(crate) fn copy(&self) -> Result<Listing, NoMemory>
+        ensures { IfOk result (λ copy. copy.entries ≡ self.now.entries) }
+    {
+        let names = copied_names(&self.names)?;
+        let rows = copied_rows(&self.rows)?;
+        let order = copied(*self.names.allocator(), &self.order)?;
+        Ok(Listing {
+            names,
+            rows,
+            order,
+            next: self.next,
+        })
+    }
+}
