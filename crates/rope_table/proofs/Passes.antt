@@ -7,7 +7,7 @@ use Rattle.rope_table.specs.declared.counts.Count.{Count}
 use Rattle.rope_table.specs.declared.counts.Pass.{Pass}
 use Rattle.rope_table.specs.declared.counts.Pass.TheVariants.{Raise, Lower, Settle}
 use Rattle.rope_table.specs.Table.{no_count, unused, uses_counted}
-use Rattle.rope_table.specs.Inside.{Tallied, count_in, found_in, is_entered, touched, missing, needed, entries_made}
+use Rattle.rope_table.specs.Inside.{Tallied, count_in, found_in, is_entered, touched, used_less, missing, needed, entries_made}
 use Rattle.rope_table.proofs.InOrder.{split}
 use Rattle.rope_table.proofs.Blocks.{one_comes, no_more_missing, fewer_pass}
 
@@ -37,6 +37,26 @@ not_true false e = refl
 
 not_entered : (counts : Tallied) (p : BlockPair) → is_entered counts p ≡ false → count_in counts p ≡ no_count
 not_entered counts p e = none (found_in counts.counts p) e
+
+-- a block with a use has a count
+pub used_entered : (counts : Tallied) (p : BlockPair) → 1 ≤ (count_in counts p).uses → is_entered counts p ≡ true
+used_entered counts p some = split (is_entered counts p) (λ e. e)
+    (λ e. let none : (count_in counts p).uses ≡ 0 = ap (λ (c : Count). c.uses) (not_entered counts p e) in absurd (omega (arith, none, some)))
+
+-- one use less where pieces have the block
+pub less_uses : (live s t : Bool) (new old : Count) → t ≡ s → new ≡ cond s (used_less live old) old → (t ≡ true → 1 ≤ old.uses) → new.uses + cond t 1 0 ≡ old.uses
+less_uses live true true new old e f some = let u = ap (λ (c : Count). c.uses) f in let least = some refl in omega (arith, u, least)
+less_uses live true false new old e f some = absurd (false≢true e)
+less_uses live false true new old e f some = absurd (false≢true (sym e))
+less_uses live false false new old e f some = let u = ap (λ (c : Count). c.uses) f in omega (arith, u)
+
+pub less_lives : (live s t : Bool) (new old : Count) → t ≡ s → new ≡ cond s (used_less live old) old → (live ≡ true → t ≡ true → 1 ≤ old.live) → new.live + cond live (cond t 1 0) 0 ≡ old.live
+less_lives true true true new old e f some = let u = ap (λ (c : Count). c.live) f in let least = some refl refl in omega (arith, u, least)
+less_lives false true true new old e f some = let u = ap (λ (c : Count). c.live) f in omega (arith, u)
+less_lives live true false new old e f some = absurd (false≢true e)
+less_lives live false true new old e f some = absurd (false≢true (sym e))
+less_lives true false false new old e f some = let u = ap (λ (c : Count). c.live) f in omega (arith, u)
+less_lives false false false new old e f some = let u = ap (λ (c : Count). c.live) f in omega (arith, u)
 
 -- a block without a count has no use
 pub missing_unused : (counts : Tallied) (ps : List BlockPair) → missing counts ps ≤ unused (uses_counted counts.counts) ps

@@ -5,7 +5,7 @@
 --     Tallied      the counts of blocks
 --     found_in, entered_in entries pair; count_in, is_entered      a block's entry, if it has one;  a block's count, 0 and not marked where there is none, and whether it is entered
 --     once, is_live, live_in entries      1 where it holds;  whether a live rope has the block of a count;  how many entries are of such blocks
---     touched live pass count; used_again live count      what a pass makes of the count of a block;  the count with one more use
+--     touched live pass count; used_again, used_less live count      what a pass makes of the count of a block;  the count with one use more, or less
 --     missing tally pairs      how many blocks have no count yet
 --     in_file, live_in_file f e, weight_found weigh name count      1 for an entry of a file, or of one that is live;  what a found entry weighs
 --     IsTallied counts files live      the numbers of such entries are kept
@@ -133,6 +133,10 @@ touched live Settle count = record { uses = count.uses; live = count.live; marke
 -- the count of a block with one more use, not marked
 abbrev pub used_again : Bool → Count → Count
 used_again live count = record { uses = count.uses + 1; live = count.live + once live; marked = false }
+
+-- the count of a block with one use less, not marked
+abbrev pub used_less : Bool → Count → Count
+used_less live count = record { uses = count.uses - 1; live = count.live - once live; marked = false }
 
 -- how many blocks have no count yet
 abbrev pub missing : Tallied → List BlockPair → ℕ

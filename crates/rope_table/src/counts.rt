@@ -6,7 +6,7 @@ ghost use Rattle.std.specs.List.{sum_by};
 ghost use Rattle.voice_units.specs.Spots.{spots_of};
 ghost use Rattle.voice_units.specs.Blocks.{BlockPair, pairs_at, has_pair, same_pair, distinct};
 ghost use Rattle.rope_table.specs.Table.{uses_by, pair_of, unused, uses_counted, live_counted, files_of, no_count, count_of};
-ghost use Rattle.rope_table.specs.Inside.{count_in, found_in, is_entered, entered_in, pair_named, touched, used_again, missing, needed, entries_made, is_live, weight_found};
+ghost use Rattle.rope_table.specs.Inside.{count_in, found_in, is_entered, entered_in, pair_named, touched, used_again, used_less, missing, needed, entries_made, is_live, weight_found};
 ghost use Rattle.rope_table.specs.declared.counts.BlockName.{BlockName};
 ghost use Rattle.rope_table.specs.declared.counts.Count.{Count};
 ghost use Rattle.rope_table.specs.declared.counts.Pass.TheVariants as pass_is;
@@ -363,6 +363,31 @@ fn raise_alone(tally: &mut Tally, name: BlockName, live: bool)
     );
 }
 
+// One use less of a block, which is not marked. Without a use it goes.
+fn lower_alone(tally: &mut Tally, name: BlockName, live: bool)
+    requires { is_entered tally.old (pair_named name) ≡ true }
+    ensures counts { (pair : BlockPair) → count_in tally.new pair ≡ cond (same_pair (pair_named name) pair) (used_less live (count_in tally.old pair)) (count_in tally.old pair) }
+    ensures spare { tally.old.spare ≤ tally.new.spare }
+{
+    let Some(count) = tally.get(&name) else {
+        return;
+    };
+    let uses = count.uses.saturating_sub(1);
+    let lives = count.live.saturating_sub(u32::from(live));
+    if uses == 0 && lives == 0 {
+        tally.take(&name);
+        return;
+    }
+    tally.put(
+        name,
+        Count {
+            uses,
+            live: lives,
+            marked: false,
+        },
+    );
+}
+
 impl UseCounts {
     /// No uses, for blocks of so many samples. It takes no memory.
     pub(crate) fn new(alloc: Global, block: u32) -> UseCounts
@@ -459,6 +484,10 @@ impl UseCounts {
         ensures live { (pair : BlockPair) → live_counted self.new.counts pair + cond live (uses_by self.old.block pieces.now pair) 0 ≡ live_counted self.old.counts pair }
         ensures spare { self.old.spare ≤ self.new.spare }
     {
+        if let Some(name) = only_block(pieces, self.block) {
+            lower_alone(&mut self.tally, name, live);
+            return;
+        }
         touch_all(&mut self.tally, self.block, pieces, live, Pass::Lower);
         touch_all(&mut self.tally, self.block, pieces, live, Pass::Settle);
     }
