@@ -9,3 +9,4 @@ pub mod Doubted
 pub mod Steps
 pub mod Grown
 pub mod Ended
+pub mod Dropped

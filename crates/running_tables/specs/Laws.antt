@@ -8,6 +8,9 @@
 --     Played, Released      a passage is held besides;  a passage is held no longer
 --     HasGrown lane n takings more, Grown      an open recording has taken n more blocks;  it takes them
 --     HasEnded lane takings more, HasFirst block file n pieces, Ended      an open recording has no block any more;  pieces have the first blocks of a file;  its blocks become those of a file
+--     Repledged      of pledged pieces it matters only which blocks they have
+--     GivenUp      the blocks of an open recording get free
+--     IsNewFile next block file pieces pledged, GivenBack      pieces have blocks of a new file alone, of which no others are pledged;  these blocks get free
 --     while_wanted pairs others takings      what becomes of an address as the blocks that nothing wants get free
 --     Divided, Counted      how many addresses are free and given out
 --     CountsUsed, CountsFree      how many are those of used blocks, and how many are free, by the state
@@ -24,7 +27,7 @@ use Rattle.voice_model.specs.Valid.{IsRebuilt}
 use Rattle.voice_model.specs.Places.{IsPlaced, AllUsed}
 use Rattle.voice_model.specs.Room.{free, used, held_by_doubt}
 use Rattle.voice_model.specs.declared.changes.Change.{Change}
-use Rattle.voice_blocks.specs.Holders.{Holders, EachBecomes, holder_at, open_in, block_of, with_taken, renamed}
+use Rattle.voice_blocks.specs.Holders.{Holders, EachBecomes, holder_at, open_in, block_of, with_taken, renamed, without_owner}
 use Rattle.voice_blocks.specs.declared.owner.Owner.TheVariants.{File, Taking}
 use Rattle.voice_blocks.specs.declared.owner.Holder.{Holder}
 use Rattle.rope_table.specs.Table.{uses_in, pairs_in, pair_of}
@@ -124,6 +127,27 @@ Ended = (held pledged : List (List Piece)) (takings more : List ℕ) (old new : 
     → ((a index : ℕ) → ¬ (holder_at old.blocks.holders a ≡ Some (block_of (File file) index)))
     → HasFirst b.shape.block file (taken takings lane) pieces → HasEnded lane takings more → Runs held (pieces ∷ pledged) more new b
 
+-- of pledged pieces it matters only which blocks they have
+abbrev pub Repledged : Type 0
+Repledged = (held pledged others : List (List Piece)) (takings : List ℕ) (parts : Parts) (b : Rebuilt) → ((pair : BlockPair) → has_pair (pairs_in b.shape.block others) pair ≡ has_pair (pairs_in b.shape.block pledged) pair) → Runs held pledged takings parts b → Runs held others takings parts b
+
+-- the blocks of an open recording get free
+abbrev pub GivenUp : Type 0
+GivenUp = (held pledged : List (List Piece)) (takings more : List ℕ) (old new : Parts) (b : Rebuilt) (lane : ℕ) → Runs held pledged takings old b
+    → Shows held new b.kept → new.form ≡ old.form → EachBecomes (without_owner (Taking lane)) old.blocks.holders new.blocks.holders → HasEnded lane takings more → Runs held pledged more new b
+
+-- these pieces have blocks of a new file alone, of which no other pledged pieces have any
+pub record IsNewFile (next block file : ℕ) (pieces : List Piece) (pledged : List (List Piece)) : Type 0 where
+  pub above : next ≤ file
+  pub of_file : (pair : BlockPair) → has_pair (pairs_at block (spots_of pieces)) pair ≡ true → pair.file ≡ file
+  pub alone : (pair : BlockPair) → has_pair (pairs_in block pledged) pair ≡ true → ¬ (pair.file ≡ file)
+
+-- a recording that failed is pledged no longer, and the blocks of its file get free
+abbrev pub GivenBack : Type 0
+GivenBack = (held pledged : List (List Piece)) (takings : List ℕ) (old new : Parts) (b : Rebuilt) (file : ℕ) (pieces : List Piece) → Runs held (pieces ∷ pledged) takings old b
+    → IsNewFile b.next b.shape.block file pieces pledged
+    → Shows held new b.kept → new.form ≡ old.form → EachBecomes (without_owner (File file)) old.blocks.holders new.blocks.holders → Runs held pledged takings new b
+
 -- addresses are free or given out
 abbrev pub Divided : Type 0
 Divided = (holders : Holders) → open_in holders + length (given holders) ≡ length holders
@@ -152,6 +176,9 @@ pub record RunsLaws : Type 0 where
   pub released : Released
   pub grown : Grown
   pub ended : Ended
+  pub repledged : Repledged
+  pub given_up : GivenUp
+  pub given_back : GivenBack
   pub divided : Divided
   pub counted : Counted
   pub used_blocks : CountsUsed

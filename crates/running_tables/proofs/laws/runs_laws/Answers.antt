@@ -7,6 +7,7 @@ use Rattle.running_tables.proofs.Recounted.{recounted}
 use Rattle.running_tables.proofs.Steps.{played, released}
 use Rattle.running_tables.proofs.Grown.{grown}
 use Rattle.running_tables.proofs.Ended.{ended}
+use Rattle.running_tables.proofs.Dropped.{repledged, given_up, given_back}
 use Rattle.running_tables.proofs.laws.runs_laws.Goals as goal
 
 pub returns : goal.returns
@@ -21,6 +22,9 @@ returns c = record {
   released = released;
   grown = grown;
   ended = ended;
+  repledged = repledged;
+  given_up = given_up;
+  given_back = given_back;
   divided = divided;
   counted = each_once;
   used_blocks = counts_used;
