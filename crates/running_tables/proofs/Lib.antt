@@ -10,3 +10,4 @@ pub mod Steps
 pub mod Grown
 pub mod Ended
 pub mod Dropped
+pub mod Landed

@@ -8,6 +8,7 @@ use Rattle.running_tables.proofs.Steps.{played, released}
 use Rattle.running_tables.proofs.Grown.{grown}
 use Rattle.running_tables.proofs.Ended.{ended}
 use Rattle.running_tables.proofs.Dropped.{repledged, given_up, given_back}
+use Rattle.running_tables.proofs.Landed.{landed, altered}
 use Rattle.running_tables.proofs.laws.runs_laws.Goals as goal
 
 pub returns : goal.returns
@@ -25,6 +26,8 @@ returns c = record {
   repledged = repledged;
   given_up = given_up;
   given_back = given_back;
+  landed = landed;
+  altered = altered;
   divided = divided;
   counted = each_once;
   used_blocks = counts_used;
