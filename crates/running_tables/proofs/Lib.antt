@@ -11,3 +11,4 @@ pub mod Grown
 pub mod Ended
 pub mod Dropped
 pub mod Landed
+pub mod Swept

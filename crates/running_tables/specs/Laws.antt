@@ -13,6 +13,7 @@
 --     IsNewFile next block file pieces pledged, GivenBack      pieces have blocks of a new file alone, of which no others are pledged;  these blocks get free
 --     Landed      the rope that a change brings becomes live
 --     keeps_ropes c, Altered      a change of rows or of the moment;  it acts
+--     AllAreInUse, Swept      while nothing is pledged each address is that of a used block, or of an open recording;  a sweep acts
 --     while_wanted pairs others takings      what becomes of an address as the blocks that nothing wants get free
 --     Divided, Counted      how many addresses are free and given out
 --     CountsUsed, CountsFree      how many are those of used blocks, and how many are free, by the state
@@ -38,6 +39,7 @@ use Rattle.recovery.specs.declared.parts.Parts.{Parts}
 use Rattle.recovery.specs.Shown.{Shows, ShowsPlaces, Rebuilds, plain_sample}
 use Rattle.checkpoint.specs.Blocks.{IsHeld}
 use Rattle.checkpoint.specs.Compact.{ShowsUsed}
+use Rattle.ready_changes.specs.Ready.{AllInUse, FreesUnused}
 use Rattle.running_tables.specs.Running.{taken, is_wanted, given, IsGiven, Runs, RunsState}
 
 -- no lane has a job or an open recording
@@ -172,6 +174,16 @@ Altered = (held pledged : List (List Piece)) (takings : List ℕ) (old new : Par
     → is_legal b c ≡ true → keeps_grammar c ≡ true → keeps_ropes c ≡ true
     → Shows held new (acted b c).kept → new.form ≡ old.form → new.blocks.holders ≡ old.blocks.holders → Runs held pledged takings new (acted b c)
 
+-- while nothing is pledged each address that is held is that of a block in use, or of an open recording
+abbrev pub AllAreInUse : Type 0
+AllAreInUse = (held : List (List Piece)) (takings : List ℕ) (parts : Parts) (b : Rebuilt) → Runs held [] takings parts b → AllInUse parts
+
+-- a legal sweep acts while nothing is pledged, and just the blocks get free that nothing uses any more
+abbrev pub Swept : Type 0
+Swept = (held : List (List Piece)) (takings : List ℕ) (old new : Parts) (b : Rebuilt) (ids : List ℕ) → Runs held [] takings old b
+    → is_legal b (changes.Swept ids) ≡ true → keeps_grammar (changes.Swept ids) ≡ true
+    → Shows held new (acted b (changes.Swept ids)).kept → new.form ≡ old.form → length new.blocks.holders ≡ length old.blocks.holders → FreesUnused old new → Runs held [] takings new (acted b (changes.Swept ids))
+
 -- addresses are free or given out
 abbrev pub Divided : Type 0
 Divided = (holders : Holders) → open_in holders + length (given holders) ≡ length holders
@@ -205,6 +217,8 @@ pub record RunsLaws : Type 0 where
   pub given_back : GivenBack
   pub landed : Landed
   pub altered : Altered
+  pub all_in_use : AllAreInUse
+  pub swept : Swept
   pub divided : Divided
   pub counted : Counted
   pub used_blocks : CountsUsed

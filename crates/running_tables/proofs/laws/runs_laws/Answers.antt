@@ -9,6 +9,7 @@ use Rattle.running_tables.proofs.Grown.{grown}
 use Rattle.running_tables.proofs.Ended.{ended}
 use Rattle.running_tables.proofs.Dropped.{repledged, given_up, given_back}
 use Rattle.running_tables.proofs.Landed.{landed, altered}
+use Rattle.running_tables.proofs.Swept.{all_in_use, swept}
 use Rattle.running_tables.proofs.laws.runs_laws.Goals as goal
 
 pub returns : goal.returns
@@ -28,6 +29,8 @@ returns c = record {
   given_back = given_back;
   landed = landed;
   altered = altered;
+  all_in_use = all_in_use;
+  swept = swept;
   divided = divided;
   counted = each_once;
   used_blocks = counts_used;
