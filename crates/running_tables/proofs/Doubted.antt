@@ -36,7 +36,7 @@ all_samples_with [] rope = append-nil rope.samples
 all_samples_with (x ∷ ropes) rope = ap (λ l. x.samples ++ l) (all_samples_with ropes rope) ∙ sym (append_assoc x.samples (flat_map (λ (y : Live Spot). y.samples) ropes) rope.samples)
 
 -- the blocks that are used once a rope has come
-used_with : (d : Durable Spot) (id : ℕ) (samples : List Spot) (q : BlockPair) → has_pair (used_pairs (with_rope d id samples)) q ≡ (has_pair (used_pairs d) q || has_pair (pairs_at d.shape.block samples) q)
+pub used_with : (d : Durable Spot) (id : ℕ) (samples : List Spot) (q : BlockPair) → has_pair (used_pairs (with_rope d id samples)) q ≡ (has_pair (used_pairs d) q || has_pair (pairs_at d.shape.block samples) q)
 used_with d id samples q =
     ap (λ l. has_pair (pairs_at d.shape.block l) q) (all_samples_with d.ropes (record { id = id; samples = samples; idle = d.moment; last = 0 }))
     ∙ has_pair-append d.shape.block (flat_map (λ (x : Live Spot). x.samples) d.ropes) samples q

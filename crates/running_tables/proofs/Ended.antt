@@ -115,7 +115,7 @@ module _ (old new : Holders) (pairs others mine all : List BlockPair) (takings m
   gives_ended : GivesJust new pairs all more
   gives_ended = record { only = only_wanted; single = one_address; passages = passage_given; recordings = other_given }
 
-with_pledge : (block : ℕ) (held pledged : List (List Piece)) (pieces : List Piece) (q : BlockPair) → has_pair (pairs_in block (held ++ pieces ∷ pledged)) q ≡ (has_pair (pairs_at block (spots_of pieces)) q || has_pair (pairs_in block (held ++ pledged)) q)
+pub with_pledge : (block : ℕ) (held pledged : List (List Piece)) (pieces : List Piece) (q : BlockPair) → has_pair (pairs_in block (held ++ pieces ∷ pledged)) q ≡ (has_pair (pairs_at block (spots_of pieces)) q || has_pair (pairs_in block (held ++ pledged)) q)
 with_pledge block held pledged pieces q =
     ap (λ l. has_pair l q) (pairs_after block held (pieces ∷ pledged))
     ∙ has_append (pairs_in block held) (pairs_at block (spots_of pieces) ++ pairs_in block pledged) q

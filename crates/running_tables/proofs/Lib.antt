@@ -9,3 +9,6 @@ pub mod Doubted
 pub mod Steps
 pub mod Grown
 pub mod Ended
+pub mod Dropped
+pub mod Landed
+pub mod Swept

@@ -17,7 +17,7 @@ use Rattle.running_tables.proofs.Codes.{either_way, or_left, or_right, has_appen
 use Rattle.running_tables.proofs.Passages.{pairs_after}
 
 -- a block that is held has a use
-used_once : (block : ℕ) (lists : List (List Piece)) (q : BlockPair) → has_pair (pairs_in block lists) q ≡ true → 1 ≤ uses_in block lists q
+pub used_once : (block : ℕ) (lists : List (List Piece)) (q : BlockPair) → has_pair (pairs_in block lists) q ≡ true → 1 ≤ uses_in block lists q
 used_once block [] q e = cc
 used_once block (x ∷ lists) q e =
     either_way (has_pair (pairs_at block (spots_of x)) q) (has_pair (pairs_in block lists) q)
@@ -26,7 +26,7 @@ used_once block (x ∷ lists) q e =
     (sym (has_append (pairs_at block (spots_of x)) (pairs_in block lists) q) ∙ e)
 
 -- and a block with a use is held
-once_used : (block : ℕ) (lists : List (List Piece)) (q : BlockPair) → 1 ≤ uses_in block lists q → has_pair (pairs_in block lists) q ≡ true
+pub once_used : (block : ℕ) (lists : List (List Piece)) (q : BlockPair) → 1 ≤ uses_in block lists q → has_pair (pairs_in block lists) q ≡ true
 once_used block [] q e = absurd (omega (arith, e))
 once_used block (x ∷ lists) q e =
     has_append (pairs_at block (spots_of x)) (pairs_in block lists) q
@@ -52,7 +52,7 @@ same_pledged block held others pledged same q =
     each lists = ap (λ l. has_pair l q) (pairs_after block lists pledged) ∙ has_append (pairs_in block lists) (pairs_in block pledged) q
 
 -- what each element of a list has, and what a block in it has
-one_has : (P : BlockPair → Type 0) (l : List BlockPair) (q : BlockPair) → Every P l → has_pair l q ≡ true → P q
+pub one_has : (P : BlockPair → Type 0) (l : List BlockPair) (q : BlockPair) → Every P l → has_pair l q ≡ true → P q
 one_has P [] q h e = cc
 one_has P (p ∷ l) q h e = either_way (same_pair q p) (has_pair l q) (λ k. subst P (sym (same_pair-true q p k)) h.0) (λ k. one_has P l q h.1 k) e
 

@@ -8,29 +8,38 @@
 --     Played, Released      a passage is held besides;  a passage is held no longer
 --     HasGrown lane n takings more, Grown      an open recording has taken n more blocks;  it takes them
 --     HasEnded lane takings more, HasFirst block file n pieces, Ended      an open recording has no block any more;  pieces have the first blocks of a file;  its blocks become those of a file
+--     Repledged      of pledged pieces it matters only which blocks they have
+--     GivenUp      the blocks of an open recording get free
+--     IsNewFile next block file pieces pledged, GivenBack      pieces have blocks of a new file alone, of which no others are pledged;  these blocks get free
+--     Landed      the rope that a change brings becomes live
+--     keeps_ropes c, Altered      a change of rows or of the moment;  it acts
+--     AllAreInUse, Swept      while nothing is pledged each address is that of a used block, or of an open recording;  a sweep acts
 --     while_wanted pairs others takings      what becomes of an address as the blocks that nothing wants get free
 --     Divided, Counted      how many addresses are free and given out
 --     CountsUsed, CountsFree      how many are those of used blocks, and how many are free, by the state
-use Rattle.std.specs.Prelude.{◌≡◌, ℕ, ◌+◌, ◌≤◌, true, cond, nat_lt, List, [], ◌∷◌, ◌++◌, map, length, replicate, Option, Some, None}
+use Rattle.std.specs.Prelude.{◌≡◌, ℕ, ◌+◌, ◌≤◌, Bool, true, false, cond, nat_lt, List, [], ◌∷◌, ◌++◌, map, length, replicate, Option, Some, None}
 use Rattle.voice_units.specs.Blocks.{BlockPair, has_pair, pairs_at, distinct}
-use Rattle.voice_units.specs.Spots.{Spot, spots_of}
+use Rattle.voice_units.specs.Spots.{Spot, spots_of, pieces_of}
 use Rattle.voice_units.specs.declared.pieces.Piece.{Piece}
-use Rattle.voice_model.specs.Replay.{Rebuilt, used_pairs, durable_by, brings, is_legal, new_places}
+use Rattle.voice_model.specs.Replay.{Rebuilt, used_pairs, durable_by, brings, is_legal, new_places, acted}
 use Rattle.voice_model.specs.Samples.{Tagged, spot_of}
 use Rattle.voice_model.specs.State.{State, LaneState, Effect, quiet_lane}
 use Rattle.voice_model.specs.State.Effect.{Recorded, Edited}
 use Rattle.voice_model.specs.Spelling.{keeps_grammar}
-use Rattle.voice_model.specs.Valid.{IsRebuilt}
+use Rattle.voice_model.specs.Valid.{Every, IsRebuilt}
 use Rattle.voice_model.specs.Places.{IsPlaced, AllUsed}
 use Rattle.voice_model.specs.Room.{free, used, held_by_doubt}
 use Rattle.voice_model.specs.declared.changes.Change.{Change}
-use Rattle.voice_blocks.specs.Holders.{Holders, EachBecomes, holder_at, open_in, block_of, with_taken, renamed}
+use Rattle.voice_model.specs.declared.changes.Change.TheVariants as changes
+use Rattle.voice_blocks.specs.Holders.{Holders, EachBecomes, holder_at, open_in, block_of, with_taken, renamed, without_owner}
 use Rattle.voice_blocks.specs.declared.owner.Owner.TheVariants.{File, Taking}
 use Rattle.voice_blocks.specs.declared.owner.Holder.{Holder}
 use Rattle.rope_table.specs.Table.{uses_in, pairs_in, pair_of}
 use Rattle.recovery.specs.declared.parts.Parts.{Parts}
 use Rattle.recovery.specs.Shown.{Shows, ShowsPlaces, Rebuilds, plain_sample}
+use Rattle.checkpoint.specs.Blocks.{IsHeld}
 use Rattle.checkpoint.specs.Compact.{ShowsUsed}
+use Rattle.ready_changes.specs.Ready.{AllInUse, FreesUnused}
 use Rattle.running_tables.specs.Running.{taken, is_wanted, given, IsGiven, Runs, RunsState}
 
 -- no lane has a job or an open recording
@@ -124,6 +133,57 @@ Ended = (held pledged : List (List Piece)) (takings more : List ℕ) (old new : 
     → ((a index : ℕ) → ¬ (holder_at old.blocks.holders a ≡ Some (block_of (File file) index)))
     → HasFirst b.shape.block file (taken takings lane) pieces → HasEnded lane takings more → Runs held (pieces ∷ pledged) more new b
 
+-- of pledged pieces it matters only which blocks they have
+abbrev pub Repledged : Type 0
+Repledged = (held pledged others : List (List Piece)) (takings : List ℕ) (parts : Parts) (b : Rebuilt) → ((pair : BlockPair) → has_pair (pairs_in b.shape.block others) pair ≡ has_pair (pairs_in b.shape.block pledged) pair) → Runs held pledged takings parts b → Runs held others takings parts b
+
+-- the blocks of an open recording get free
+abbrev pub GivenUp : Type 0
+GivenUp = (held pledged : List (List Piece)) (takings more : List ℕ) (old new : Parts) (b : Rebuilt) (lane : ℕ) → Runs held pledged takings old b
+    → Shows held new b.kept → new.form ≡ old.form → EachBecomes (without_owner (Taking lane)) old.blocks.holders new.blocks.holders → HasEnded lane takings more → Runs held pledged more new b
+
+-- these pieces have blocks of a new file alone, of which no other pledged pieces have any
+pub record IsNewFile (next block file : ℕ) (pieces : List Piece) (pledged : List (List Piece)) : Type 0 where
+  pub above : next ≤ file
+  pub of_file : (pair : BlockPair) → has_pair (pairs_at block (spots_of pieces)) pair ≡ true → pair.file ≡ file
+  pub alone : (pair : BlockPair) → has_pair (pairs_in block pledged) pair ≡ true → ¬ (pair.file ≡ file)
+
+-- a recording that failed is pledged no longer, and the blocks of its file get free
+abbrev pub GivenBack : Type 0
+GivenBack = (held pledged : List (List Piece)) (takings : List ℕ) (old new : Parts) (b : Rebuilt) (file : ℕ) (pieces : List Piece) → Runs held (pieces ∷ pledged) takings old b
+    → IsNewFile b.next b.shape.block file pieces pledged
+    → Shows held new b.kept → new.form ≡ old.form → EachBecomes (without_owner (File file)) old.blocks.holders new.blocks.holders → Runs held pledged takings new b
+
+-- the rope that a legal change brings becomes live and is pledged no longer, and the map stays
+abbrev pub Landed : Type 0
+Landed = (held pledged : List (List Piece)) (takings : List ℕ) (old new : Parts) (b : Rebuilt) (c : Change) (samples : List Spot) → Runs held (pieces_of samples ∷ pledged) takings old b
+    → is_legal b c ≡ true → keeps_grammar c ≡ true → rope_brought (brings c) ≡ Some samples → Every (IsHeld old.blocks.holders) (new_places c)
+    → Shows held new (acted b c).kept → new.form ≡ old.form → new.blocks.holders ≡ old.blocks.holders → Runs held pledged takings new (acted b c)
+
+-- whether a change is one of rows or of the moment
+abbrev pub keeps_ropes : Change → Bool
+keeps_ropes (changes.Retained class key id note) = true
+keeps_ropes (changes.Forgotten class key) = true
+keeps_ropes (changes.Census keys) = true
+keeps_ropes (changes.Advanced moment) = true
+keeps_ropes _ = false
+
+-- a legal change of rows or of the moment acts, and the map stays
+abbrev pub Altered : Type 0
+Altered = (held pledged : List (List Piece)) (takings : List ℕ) (old new : Parts) (b : Rebuilt) (c : Change) → Runs held pledged takings old b
+    → is_legal b c ≡ true → keeps_grammar c ≡ true → keeps_ropes c ≡ true
+    → Shows held new (acted b c).kept → new.form ≡ old.form → new.blocks.holders ≡ old.blocks.holders → Runs held pledged takings new (acted b c)
+
+-- while nothing is pledged each address that is held is that of a block in use, or of an open recording
+abbrev pub AllAreInUse : Type 0
+AllAreInUse = (held : List (List Piece)) (takings : List ℕ) (parts : Parts) (b : Rebuilt) → Runs held [] takings parts b → AllInUse parts
+
+-- a legal sweep acts while nothing is pledged, and just the blocks get free that nothing uses any more
+abbrev pub Swept : Type 0
+Swept = (held : List (List Piece)) (takings : List ℕ) (old new : Parts) (b : Rebuilt) (ids : List ℕ) → Runs held [] takings old b
+    → is_legal b (changes.Swept ids) ≡ true → keeps_grammar (changes.Swept ids) ≡ true
+    → Shows held new (acted b (changes.Swept ids)).kept → new.form ≡ old.form → length new.blocks.holders ≡ length old.blocks.holders → FreesUnused old new → Runs held [] takings new (acted b (changes.Swept ids))
+
 -- addresses are free or given out
 abbrev pub Divided : Type 0
 Divided = (holders : Holders) → open_in holders + length (given holders) ≡ length holders
@@ -152,6 +212,13 @@ pub record RunsLaws : Type 0 where
   pub released : Released
   pub grown : Grown
   pub ended : Ended
+  pub repledged : Repledged
+  pub given_up : GivenUp
+  pub given_back : GivenBack
+  pub landed : Landed
+  pub altered : Altered
+  pub all_in_use : AllAreInUse
+  pub swept : Swept
   pub divided : Divided
   pub counted : Counted
   pub used_blocks : CountsUsed

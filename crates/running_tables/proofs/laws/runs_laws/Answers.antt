@@ -7,6 +7,9 @@ use Rattle.running_tables.proofs.Recounted.{recounted}
 use Rattle.running_tables.proofs.Steps.{played, released}
 use Rattle.running_tables.proofs.Grown.{grown}
 use Rattle.running_tables.proofs.Ended.{ended}
+use Rattle.running_tables.proofs.Dropped.{repledged, given_up, given_back}
+use Rattle.running_tables.proofs.Landed.{landed, altered}
+use Rattle.running_tables.proofs.Swept.{all_in_use, swept}
 use Rattle.running_tables.proofs.laws.runs_laws.Goals as goal
 
 pub returns : goal.returns
@@ -21,6 +24,13 @@ returns c = record {
   released = released;
   grown = grown;
   ended = ended;
+  repledged = repledged;
+  given_up = given_up;
+  given_back = given_back;
+  landed = landed;
+  altered = altered;
+  all_in_use = all_in_use;
+  swept = swept;
   divided = divided;
   counted = each_once;
   used_blocks = counts_used;
