@@ -2,7 +2,7 @@
 
 ghost use Rattle.running_tables.specs.Laws.{RunsLaws};
 
-/// Tables that show what replay gives are those of a running manager with nothing held, and the free addresses of tables that show a state are as many as its free blocks.
+/// Tables that show what replay gives are those of a running manager with nothing held, each step of a passage, of a recording and of a change leaves them so, and the free addresses of tables that show a state are as many as its free blocks.
 pub fn runs_laws()
     ensures { RunsLaws }
 {}
