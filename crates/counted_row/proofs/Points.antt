@@ -69,6 +69,9 @@ module _ {X : Type 0} where
   pub start-more : (cs : List (List X)) (i : ℕ) → i < length cs → start cs (i + 1) ≡ start cs i + length (get_or cs i [])
   start-more cs i h = let one : i + 1 ≡ suc i = omega arith in ap (λ n. start cs n) one ∙ flat-take_more cs i h
 
+  pub start-before : (cs : List (List X)) (i : ℕ) → 0 < i → i ≤ length cs → start cs i ≡ start cs (i - 1) + length (get_or cs (i - 1) [])
+  start-before cs i some h = let one : i ≡ (i - 1) + 1 = omega (arith, some) in ap (λ n. start cs n) one ∙ start-more cs (i - 1) (omega (arith, some, h))
+
   take-whole : (cs : List (List X)) (n : ℕ) → length cs ≤ n → take n cs ≡ cs
   take-whole [] zero h = refl
   take-whole [] (suc n) h = refl

@@ -182,7 +182,7 @@ impl<T: Drop> CountedRow<T> {
     pub fn get(&self, k: usize) -> Option<&T>
         ensures { option_copied result ≡ slice_get self.now.items k }
     {
-        let Some(spot) = spot_of(&self.chunks, k) else {
+        let Some(spot) = spot_of(&self.chunks, self.len, k) else {
             return None;
         };
         self.chunks[spot.chunk].get(spot.place)
@@ -194,7 +194,7 @@ impl<T: Drop> CountedRow<T> {
         ensures bound { result ≤ length self.now.items }
         ensures partitioned { (p : T → Bool) → ComputesKey P.FnMut p pred → IsPartitionedBy p self.now.items → IsPartitionPoint (λ y. p y ≡ true) (λ y. p y ≡ false) self.now.items result }
     {
-        point_in(&self.chunks, pred)
+        point_in(&self.chunks, self.len, pred)
     }
 
     /// Values that lie side by side from the k-th on, at least one, if there is a k-th. Runs that follow one another go over all values in order.
@@ -203,7 +203,7 @@ impl<T: Drop> CountedRow<T> {
         ensures some { IfSome result (λ run. 0 < length run.now) }
         ensures none { IfNone result (length self.now.items ≤ k) }
     {
-        let Some(spot) = spot_of(&self.chunks, k) else {
+        let Some(spot) = spot_of(&self.chunks, self.len, k) else {
             return None;
         };
         Some(self.chunks[spot.chunk].tail(spot.place))
@@ -215,7 +215,7 @@ impl<T: Drop> CountedRow<T> {
         ensures items { self.new.items ≡ slice_set self.old.items k value }
         ensures spare { self.new.spare ≡ self.old.spare }
     {
-        let Some(spot) = spot_of(&self.chunks, k) else {
+        let Some(spot) = spot_of(&self.chunks, self.len, k) else {
             return None;
         };
         let old = exchange(&mut self.chunks, spot.chunk, spot.place, value);
@@ -229,7 +229,7 @@ impl<T: Drop> CountedRow<T> {
         ensures spare { self.old.spare ≤ self.new.spare }
         ensures gained { OnSome result (self.new.spare ≡ self.old.spare + 1) }
     {
-        let Some(spot) = spot_of(&self.chunks, k) else {
+        let Some(spot) = spot_of(&self.chunks, self.len, k) else {
             return None;
         };
         fill_up(&mut self.chunks, &mut self.stock, spot.chunk);
@@ -272,7 +272,7 @@ impl<T: Drop> CountedRow<T> {
         ensures items { self.new.items ≡ insert self.old.items k value }
         ensures spare { self.old.spare ≤ self.new.spare + 1 }
     {
-        let Some(spot) = spot_of(&self.chunks, k) else {
+        let Some(spot) = spot_of(&self.chunks, self.len, k) else {
             return;
         };
         let spot = open_up(&mut self.chunks, &mut self.stock, &spot);

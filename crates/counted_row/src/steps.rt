@@ -14,8 +14,8 @@ pub(crate) struct Spot {
     pub(crate) place: usize,
 }
 
-/// Where the k-th value stands.
-pub(crate) fn spot_of<T: Drop>(chunks: &Vec<Chunk<T>>, k: usize) -> Option<Spot>
+// Where the k-th value stands, looked for from the first chunk on.
+fn spot_from_front<T: Drop>(chunks: &Vec<Chunk<T>>, k: usize) -> Option<Spot>
     ensures some { IfSome result (λ spot. Stands chunks.now.items spot.chunk spot.place k) }
     ensures none { IfNone result (length (flat chunks.now.items) ≤ k) }
 {
@@ -31,6 +31,42 @@ pub(crate) fn spot_of<T: Drop>(chunks: &Vec<Chunk<T>>, k: usize) -> Option<Spot>
         rest -= count;
     }
     None
+}
+
+// The same from the last chunk on, where there are `len` values in all.
+fn spot_from_end<T: Drop>(chunks: &Vec<Chunk<T>>, len: usize, k: usize) -> Option<Spot>
+    requires { len ≡ length (flat chunks.now.items) }
+    ensures some { IfSome result (λ spot. Stands chunks.now.items spot.chunk spot.place k) }
+    ensures none { IfNone result (length (flat chunks.now.items) ≤ k) }
+{
+    if k >= len {
+        return None;
+    }
+    let mut start = len;
+    let mut i = chunks.len();
+    'back: while i > 0 {
+        i -= 1;
+        start -= chunks[i].len();
+        if start <= k {
+            return Some(Spot {
+                chunk: i,
+                place: k - start,
+            });
+        }
+    }
+    None
+}
+
+/// Where the k-th of `len` values stands. It looks at half the chunks at most.
+pub(crate) fn spot_of<T: Drop>(chunks: &Vec<Chunk<T>>, len: usize, k: usize) -> Option<Spot>
+    requires { len ≡ length (flat chunks.now.items) }
+    ensures some { IfSome result (λ spot. Stands chunks.now.items spot.chunk spot.place k) }
+    ensures none { IfNone result (length (flat chunks.now.items) ≤ k) }
+{
+    if k < len / 2 {
+        return spot_from_front(chunks, k);
+    }
+    spot_from_end(chunks, len, k)
 }
 
 /// Puts a value into a chunk that is not full.

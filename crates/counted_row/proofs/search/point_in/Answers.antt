@@ -56,14 +56,14 @@ overflow_add-result g c =
     let cs = c.args.chunks.now.items in let base = c.loop-size.base in
     let within : base < length cs = omega (arith, c.loop-size.invariant.0, c.loop-size.invariant.1) in
     let all : c.partition_point-place.result ≤ length (get_or cs base []) = subst (λ l. c.partition_point-place.result ≤ length l) (c.tail.ensures ∙ at-index cs base c.index-2.result.now within c.index-2.ensures) c.partition_point-place.ensures.bound in
-    omega (arith, all, c.count_before.ensures, start-within cs base within, c.requires.few)
+    omega (arith, all, c.start_of.ensures, start-within cs base within, c.requires.few)
 
 pub returns-clause-bound : goal.returns-clause-bound
 returns-clause-bound g c =
     let cs = c.args.chunks.now.items in let base = c.loop-size.base in
     let within : base < length cs = omega (arith, c.loop-size.invariant.0, c.loop-size.invariant.1) in
     let all : c.partition_point-place.result ≤ length (get_or cs base []) = subst (λ l. c.partition_point-place.result ≤ length l) (c.tail.ensures ∙ at-index cs base c.index-2.result.now within c.index-2.ensures) c.partition_point-place.ensures.bound in
-    omega (arith, all, c.count_before.ensures, start-within cs base within)
+    omega (arith, all, c.start_of.ensures, start-within cs base within)
 
 pub returns-clause-partitioned : goal.returns-clause-partitioned
 returns-clause-partitioned g c p computes parts =
@@ -77,4 +77,4 @@ returns-clause-partitioned g c p computes parts =
     let point : IsPartitionPoint (λ y. p y ≡ true) (λ y. p y ≡ false) (get_or cs base []) place = subst (λ l. IsPartitionPoint (λ y. p y ≡ true) (λ y. p y ≡ false) l place) here (c.partition_point-place.ensures.partitioned p i.0 inside) in
     let one : base + c.loop-size.size ≡ base + 1 = omega (arith, c.loop-size.invariant.0, c.loop-size-test.false) in
     let halved : Halved p (flat cs) (start cs base) (start cs (base + 1)) = subst (λ m. Halved p (flat cs) (start cs base) (start cs m)) one i.1 in
-    point-in p cs base place (c.count_before.result + place) within (ap (λ n. n + place) c.count_before.ensures) all halved point
+    point-in p cs base place (c.start_of.result + place) within (ap (λ n. n + place) c.start_of.ensures) all halved point
