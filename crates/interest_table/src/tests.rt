@@ -179,52 +179,70 @@ fn rows_go_at_once(rt: HostRuntime) -> Result<(), Fail> {
     Ok(())
 }
 
-// How many rows `many` makes.
-const ROWS: u32 = 1000;
-
-// Rows of ropes 1 to 1,000 in order, each under the bytes of its number.
-fn many(alloc: Global) -> Result<InterestTable, NoMemory> {
-    let mut table = InterestTable::new(alloc);
-    for k in 0..ROWS {
-        if add(&mut table, Class::Held, &k.to_be_bytes(), k + 1, b"") != 0 {
-            return Err(NoMemory);
+// How many of a thousand rows, in order under the bytes of their numbers, are refused.
+fn fill_many(table: &mut InterestTable) -> u64 {
+    let mut refused: u64 = 0;
+    for k in 0..1000u32 {
+        if add(
+            table,
+            Class::Held,
+            &k.to_be_bytes(),
+            k.saturating_add(1),
+            b"",
+        ) != 0
+        {
+            refused = refused.wrapping_add(1);
         }
     }
-    Ok(table)
+    refused
 }
 
-// How many of the rows from a place on have not the ropes that rise by one from a first rope on.
+// The rope of the row of a number that goes, or 0.
+fn remove_number(table: &mut InterestTable, number: u32) -> u64 {
+    remove(table, Class::Held, &number.to_be_bytes())
+}
+
+// The first row goes, then one in the middle, then the last, then none.
+fn remove_some(table: &mut InterestTable) -> [u64; 4] {
+    let first = remove_number(table, 0);
+    let middle = remove_number(table, 500);
+    let last = remove_number(table, 999);
+    let none = remove_number(table, 500);
+    [first, middle, last, none]
+}
+
+// How many rows from a place on have not the ropes that rise by one from a first rope on.
 fn wrong(table: &InterestTable, from: u32, to: u32, rope: u64) -> u64 {
     let mut wrong: u64 = 0;
+    let mut due = rope;
     for k in from..to {
-        let due = rope.wrapping_add(u64::from(k.saturating_sub(from)));
         if rope_at(table, k) != due {
             wrong = wrong.wrapping_add(1);
         }
+        due = due.wrapping_add(1);
     }
     wrong
 }
 
-// The first row goes, then one in the middle, then the last; the middle one comes again, and is the last.
+fn order_of(table: &InterestTable) -> [u64; 4] {
+    [
+        wrong(table, 0, 499, 2),
+        wrong(table, 499, 997, 502),
+        rope_at(table, 997),
+        rope_at(table, 998),
+    ]
+}
+
+// A row that comes again in the place of one that went is the last.
 #[test]
 fn many_rows_keep_their_order(rt: HostRuntime) -> Result<(), Fail> {
-    let mut table = many(rt.alloc())?;
-    assert_eq!(rt; remove(&mut table, Class::Held, &0u32.to_be_bytes()), 1);
-    assert_eq!(rt; remove(&mut table, Class::Held, &500u32.to_be_bytes()), 501);
-    assert_eq!(rt;
-        remove(&mut table, Class::Held, &999u32.to_be_bytes()),
-        1000
-    );
-    assert_eq!(rt; remove(&mut table, Class::Held, &500u32.to_be_bytes()), 0);
+    let mut table = InterestTable::new(rt.alloc());
+    assert_eq!(rt; fill_many(&mut table), 0);
+    assert_eq!(rt; remove_some(&mut table), [1, 501, 1000, 0]);
     assert_eq!(rt;
         add(&mut table, Class::Held, &500u32.to_be_bytes(), 501, b""),
         0
     );
-    assert_eq!(rt; wrong(&table, 0, 499, 2), 0);
-    assert_eq!(rt; wrong(&table, 499, 997, 502), 0);
-    assert_eq!(rt; rope_at(&table, 997), 501);
-    assert_eq!(rt; rope_at(&table, 998), 0);
-    let copy = table.copy()?;
-    assert_eq!(rt; wrong(&copy, 499, 997, 502), 0);
+    assert_eq!(rt; order_of(&table), [0, 0, 501, 0]);
     Ok(())
 }
