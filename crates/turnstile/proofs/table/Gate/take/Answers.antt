@@ -1,6 +1,6 @@
 use Rattle.std.proofs.Common.{ℕ, List, ◌∷◌, Some, Option, sym, ap, ◌∙◌}
 use Rattle.atomic_table.specs.Table.{rest}
-use Rattle.turnstile.proofs.parts.Turnstile.take.Goals as goal
+use Rattle.turnstile.proofs.table.Gate.take.Goals as goal
 
 pub exchange-slot-requires : goal.exchange-slot-requires
 exchange-slot-requires g c =

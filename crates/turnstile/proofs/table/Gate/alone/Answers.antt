@@ -2,7 +2,7 @@ use Rattle.std.proofs.Common.{◌≡◌, List, [], ◌∷◌, ◌++◌, map, Som
 use Rattle.std.specs.Prelude.{replicate}
 use mathlib.Core.Option.{some}
 use Rattle.turnstile.proofs.Opens.{opens}
-use Rattle.turnstile.proofs.parts.Turnstile.alone.Goals as goal
+use Rattle.turnstile.proofs.table.Gate.alone.Goals as goal
 
 pub new-requires : goal.new-requires
 new-requires g c =
