@@ -1,5 +1,5 @@
 -- Lists of passes.
-use Rattle.std.proofs.Common.{◌≡◌, ℕ, zero, suc, ◌+◌, ◌<◌, ◌≤◌, List, [], ◌∷◌, ◌++◌, length, All, Option, true≢false, refl, ⊎_elim, sym, ap, ◌∙◌, subst, arith, add-zero}
+use Rattle.std.proofs.Common.{◌≡◌, ℕ, zero, suc, ◌+◌, ◌<◌, ◌≤◌, List, [], ◌∷◌, ◌++◌, length, All, Option, true≢false, refl, ⊎_elim, sym, ap, ◌∙◌, subst, arith, add-zero, append_assoc}
 use Rattle.turnstile.specs.declared.view.Old.{Old}
 use Rattle.voice_model.specs.declared.calls.Entry.{Entry}
 use Rattle.atomic_table.specs.Table.{Me}
@@ -7,8 +7,8 @@ use Rattle.atomic_table.specs.declared.shared.Seat.{Seat}
 use Rattle.turnstile.specs.declared.view.View.{View}
 use Rattle.turnstile.specs.declared.table.Gate.{Gate}
 use Rattle.turnstile.specs.Shown.{Identity, ShownTurnstile, ShownPass}
-use Rattle.turnstile.specs.Turns.{Every, has_turn, with_olds}
-use Rattle.turnstile.specs.Passes.{AreOf, EachIsOf, IsOf, IsOutside, IsNew, AreNewFrom}
+use Rattle.turnstile.specs.Turns.{Every, StandsIn, has_turn, with_olds}
+use Rattle.turnstile.specs.Passes.{AreOf, EachIsOf, IsOf, IsOutside, IsNew, AreNewFrom, AllStandIn}
 use Rattle.turnstile.specs.Seats.{StandsOutside, HasEntered, IsAtRest, shown_pass, old_pass, gathered}
 use Rattle.turnstile.specs.Gates.{IsSeatOf, IsLead, shown_turnstile}
 
@@ -34,18 +34,31 @@ every_back : {X : Type 0} (P : X → Type 0) (xs ys : List X) → Every P (xs ++
 every_back P [] ys h = h
 every_back P (x ∷ xs) ys h = every_back P xs ys h.1
 
+-- one more was joined
+pub joined_more : {X : Type 0} (all front rest joined : List X) (x : X) → all ≡ front ++ joined → front ≡ rest ++ x ∷ [] → all ≡ rest ++ (x ∷ joined)
+joined_more all front rest joined x is split = is ∙ ap (λ l. l ++ joined) split ∙ append_assoc rest (x ∷ []) joined
+
+pub joined_all : {X : Type 0} (all front joined : List X) → all ≡ front ++ joined → front ≡ [] → all ≡ joined
+joined_all all front joined is none = is ∙ ap (λ l. l ++ joined) none
+
 module _ {T : Type 0} where
-  pub new_more : (history : T → List Entry) (t : ShownTurnstile T) (by n : ℕ) (xs : List (ShownPass T)) (p : ShownPass T) → AreNewFrom history t by xs → IsNew history t n p → by + length xs ≡ n → AreNewFrom history t by (xs ++ p ∷ [])
+  new_more : (history : T → List Entry) (t : ShownTurnstile T) (by n : ℕ) (xs : List (ShownPass T)) (p : ShownPass T) → AreNewFrom history t by xs → IsNew history t n p → by + length xs ≡ n → AreNewFrom history t by (xs ++ p ∷ [])
   new_more history t by n [] p h k e = (subst (λ (m : ℕ). IsNew history t m p) (let f : n ≡ by = sym e ∙ add-zero by in f) k, tt)
   new_more history t by n (x ∷ xs) p h k e = (h.0, new_more history t (suc by) n xs p h.1 k (let f : by + suc (length xs) ≡ n = e in omega arith))
+
+  pub new_put : (history : T → List Entry) (t : ShownTurnstile T) (by n : ℕ) (xs after : List (ShownPass T)) (p : ShownPass T) → after ≡ xs ++ p ∷ [] → AreNewFrom history t by xs → IsNew history t n p → by + length xs ≡ n → AreNewFrom history t by after
+  new_put history t by n xs after p put h k e = subst (AreNewFrom history t by) (sym put) (new_more history t by n xs p h k e)
 
   -- new passes are passes of the turnstile
   new_is_of : (history : T → List Entry) (t : ShownTurnstile T) (by : ℕ) (ps : List (ShownPass T)) → AreNewFrom history t by ps → EachIsOf t ps
   new_is_of history t by [] h = tt
   new_is_of history t by (p ∷ ps) h = ((h.0.0, h.0.1), new_is_of history t (suc by) ps h.1)
 
-  pub news_are_of : (history : T → List Entry) (t : ShownTurnstile T) (by : ℕ) (ps : List (ShownPass T)) → AreNewFrom history t by ps → AreOf t ps
+  news_are_of : (history : T → List Entry) (t : ShownTurnstile T) (by : ℕ) (ps : List (ShownPass T)) → AreNewFrom history t by ps → AreOf t ps
   news_are_of history t by ps h = all_of_every (λ p. IsOf t p × IsOutside p) ps (new_is_of history t by ps h)
+
+  pub put_first : (history : T → List Entry) (t : ShownTurnstile T) (xs after : List (ShownPass T)) (p q : ShownPass T) → after ≡ p ∷ xs → p ≡ q → IsNew history t 1 q → AreNewFrom history t 2 xs → AreOf t after
+  put_first history t xs after p q put is new h = news_are_of history t 1 after (subst (AreNewFrom history t 1) (sym put) (subst (IsNew history t 1) (sym is) new, h))
 
   pub each_of : (t : ShownTurnstile T) (ps rest : List (ShownPass T)) (lead : ShownPass T) → AreOf t ps → ps ≡ rest ++ lead ∷ [] → EachIsOf t rest × IsOf t lead × IsOutside lead
   each_of t ps rest lead h e =
@@ -62,6 +75,15 @@ module _ {T : Type 0} where
 
   pub met_after : (v : View T) (m n : Me (Option T) (View T)) (p : ShownPass T) (xs : List Old) → m ≡ (with_olds xs v, []) → n ≡ (with_olds (old_pass p ∷ m.0.olds) m.0, []) → n ≡ (with_olds (old_pass p ∷ xs) v, [])
   met_after v m n p xs e f = f ∙ ap (λ (m : Me (Option T) (View T)). (with_olds (old_pass p ∷ m.0.olds) m.0, [])) e
+
+  pub met_all : (v : View T) (m : Me (Option T) (View T)) (base : List Old) (joined all : List (ShownPass T)) → m ≡ (with_olds (gathered base joined) v, []) → all ≡ joined → m ≡ (with_olds (gathered base all) v, [])
+  met_all v m base joined all h is = h ∙ ap (λ (l : List (ShownPass T)). (with_olds (gathered base l) v, [])) (sym is)
+
+  -- the last of the passes stands in the history too
+  pub all_stand : (history : T → List Entry) (t : ShownTurnstile T) (y : T) (all rest : List (ShownPass T)) (lead : ShownPass T) → all ≡ rest ++ lead ∷ [] → AllStandIn history t y rest → StandsIn (history t.made_with) (history y) lead.caller lead.seen lead.mine → AllStandIn history t y all
+  all_stand history t y all rest lead split h own =
+      let P : ShownPass T → Type 0 = λ p. StandsIn (history t.made_with) (history y) p.caller p.seen p.mine in
+      subst (Every P) (sym split) (every_snoc P rest lead h own)
 
   pub olds_after : (m : Me (Option T) (View T)) (v : View T) (xs : List Old) → m ≡ (with_olds xs v, []) → (m.0.olds ≡ xs) × (m.0.seen ≡ v.seen) × (m.0.mine ≡ v.mine) × (m.0.caller ≡ v.caller)
   olds_after m v xs e = (ap (λ (m : Me (Option T) (View T)). m.0.olds) e, ap (λ (m : Me (Option T) (View T)). m.0.seen) e, ap (λ (m : Me (Option T) (View T)). m.0.mine) e, ap (λ (m : Me (Option T) (View T)). m.0.caller) e)

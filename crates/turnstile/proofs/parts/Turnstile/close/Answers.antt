@@ -6,7 +6,7 @@ use Rattle.turnstile.specs.Turns.{StandsIn, Every}
 use Rattle.turnstile.specs.Passes.{AreOf, AllStandIn}
 use Rattle.turnstile.specs.Seats.{gathered}
 use Rattle.turnstile.specs.Gates.{shown_turnstile}
-use Rattle.turnstile.proofs.Many.{each_of, every_snoc, gathered_all, gathered_long, olds_after, seat_of_pass, seat_outside}
+use Rattle.turnstile.proofs.Many.{each_of, all_stand, gathered_all, gathered_long, olds_after, seat_of_pass, seat_outside}
 use Rattle.turnstile.proofs.parts.Turnstile.close.Goals as goal
 
 pub finish-requires-clause-all : goal.finish-requires-clause-all
@@ -51,6 +51,5 @@ returns-clause-passes g c =
     subst (λ (by : ℕ). StandsIn start log by lead.seen lead.mine) by
     (subst (λ (x : List Entry). StandsIn start log c.gather.new.lead.me.0.caller x lead.mine) seen
     (subst (λ (x : List Entry). StandsIn start log c.gather.new.lead.me.0.caller c.gather.new.lead.me.0.seen x) mine c.finish.ensures.own)) in
-    let P : ShownPass g.row.T.Denot → Type 0 = λ p. StandsIn start log p.caller p.seen p.mine in
     subst (λ (t : ShownTurnstile g.row.T.Denot). AllStandIn h t c.finish.result c.args.passes.items) c.self.view_is
-    (subst (Every P) (sym c.in-Some.ensures.items) (every_snoc P rest lead olds own))
+    (all_stand h t c.finish.result c.args.passes.items rest lead c.in-Some.ensures.items olds own)

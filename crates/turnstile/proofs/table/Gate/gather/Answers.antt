@@ -1,11 +1,9 @@
-use Rattle.std.proofs.Common.{◌≡◌, List, [], ◌∷◌, ◌++◌, refl, sym, ap, ◌∙◌, subst, append-nil, append_assoc, arith}
+use Rattle.std.proofs.Common.{◌≡◌, [], ◌∷◌, refl, sym, ◌∙◌, subst, append-nil, arith}
 use Rattle.std.proofs.lemmas.List.{nil_from_length}
-use Rattle.turnstile.specs.Shown.{ShownPass}
-use Rattle.turnstile.specs.Turns.{with_olds}
 use Rattle.turnstile.specs.Passes.{EachIsOf, IsOf, IsOutside}
 use Rattle.turnstile.specs.Seats.{gathered}
 use Rattle.turnstile.specs.Gates.{shown_turnstile}
-use Rattle.turnstile.proofs.Many.{every_front, lead_after, met_after}
+use Rattle.turnstile.proofs.Many.{every_front, lead_after, met_after, met_all, joined_more, joined_all}
 use Rattle.turnstile.proofs.table.Gate.gather.Goals as goal
 
 pub loop-pass-init : goal.loop-pass-init
@@ -28,7 +26,7 @@ loop-pass-preserved g c =
     let e = c.meet.ensures in
     let t = shown_turnstile c.args.self.now in (
       c.in-Some.pass ∷ i.0,
-      i.1 ∙ ap (λ (l : List (ShownPass g.row.T.Denot)). l ++ i.0) c.in-Some.ensures.items ∙ append_assoc c.pop.new.self.items (c.in-Some.pass ∷ []) i.0,
+      joined_more c.args.passes.items c.loop-pass.passes.items c.pop.new.self.items i.0 c.in-Some.pass i.1 c.in-Some.ensures.items,
       e.same ∙ i.2,
       met_after c.args.lead.now.me.0 c.loop-pass.lead.me c.meet.new.lead.me c.in-Some.pass (gathered c.args.lead.now.me.0.olds i.0) i.3 e.met,
       (every_front (λ p. IsOf t p × IsOutside p) c.pop.new.self.items c.in-Some.pass (subst (EachIsOf t) c.in-Some.ensures.items i.4)).0,
@@ -43,5 +41,5 @@ returns-clause-all g c =
     let z = c.in_default.ensures.cases in
     let o = c.loop-pass.passes.ok in
     let none : c.loop-pass.passes.items ≡ [] = nil_from_length c.loop-pass.passes.items (omega arith) in
-    let all : c.args.passes.items ≡ i.0 = i.1 ∙ ap (λ (l : List (ShownPass g.row.T.Denot)). l ++ i.0) none in
-    i.3 ∙ ap (λ (l : List (ShownPass g.row.T.Denot)). (with_olds (gathered c.args.lead.now.me.0.olds l) c.args.lead.now.me.0, [])) (sym all)
+    let all : c.args.passes.items ≡ i.0 = joined_all c.args.passes.items c.loop-pass.passes.items i.0 i.1 none in
+    met_all c.args.lead.now.me.0 c.loop-pass.lead.me c.args.lead.now.me.0.olds i.0 c.args.passes.items i.3 all
