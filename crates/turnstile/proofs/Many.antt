@@ -99,7 +99,7 @@ module _ {T O : Type 0} where
   -- the first seat's pass is new
   pub lead_is_new : (history : T → List Entry) (g : Gate T O) (made : ℕ) (s : Seat (Option T) (View T)) → IsLead history g made s → 0 < g.table.shared.key.callers → IsNew history (shown_turnstile g) 1 (shown_pass 1 s)
   lead_is_new history g made s l some = (
-    record { turnstile = (λ i. record { table = l.of.table i; start = l.of.start i }); positive = omega arith; within = some },
+    record { turnstile = (λ i. record { table = l.of.table i; start = l.of.start i }); positive = omega arith; within = some; few = omega arith },
     ap has_turn l.outside.0,
     refl,
     l.seen,

@@ -26,6 +26,7 @@ module _ {T : Type 0} where
     pub turnstile : p.of ≡ t.identity
     pub positive : 0 < p.caller
     pub within : p.caller ≤ t.callers
+    pub few : p.caller ≤ 16
 
   -- it has neither a ticket nor the value
   abbrev pub IsOutside : ShownPass T → Type 0
