@@ -1,3 +1,6 @@
+pub mod Gates
 pub mod Histories
-pub mod Turns
 pub mod Passes
+pub mod Seats
+pub mod Shown
+pub mod Turns

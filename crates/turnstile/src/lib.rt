@@ -6,6 +6,8 @@ mod making;
 mod parts;
 mod plays;
 mod stands;
+mod table;
+mod turns;
 mod view;
 
 pub use parts::{Pass, Turnstile};

@@ -1,20 +1,37 @@
 // The turnstile and its passes.
-ghost use Rattle.std.specs.Prelude.{◌≡◌, ◌<◌, ◌≤◌};
-
 use crate::stands::Stands;
-use crate::view::{Start, TurnRule, View};
-use atomic_table::{Seat, Table};
-use std::alloc::Global;
+use crate::table::{Gate, Place};
+use std::marker::Model;
 
-/// A caller's pass. It has a number, and what it knows of the history.
+/// A caller's pass. Contracts see its number, what it knows of the history, and whether its caller has the value.
 pub struct Pass<T: Stands> {
     pub(crate) caller: u16,
-    pub(crate) seat: Seat<Option<T>, View<T>>,
+    pub(crate) seat: Place<T>,
 }
 
-/// One value, at which callers take turns.
+impl<T: Stands> Model for Pass<T> {
+    ghost use Rattle.turnstile.specs.Shown.{ShownPass};
+
+    ghost Value = { ShownPass T };
+
+    ghost use Rattle.turnstile.specs.Seats.{shown_pass, IsAtRest};
+
+    ghost view = { λ p. shown_pass p.caller p.seat };
+
+    ghost invariant = { λ p. IsAtRest p.caller p.seat };
+}
+
+/// One value, at which callers take turns. Contracts see the value that it was made with, and for how many callers.
 pub struct Turnstile<T: Stands> {
-    pub(crate) table: Table<Option<T>, View<T>, Start<T>, TurnRule, Global>,
-    ghost some: { (0 < table.shared.key.callers) × (table.shared.key.callers ≤ 16) },
-    ghost sizes: { (table.shared.table_id.words ≡ 19) × (table.shared.table_id.slots ≡ 1) },
+    pub(crate) gate: Gate<T>,
+}
+
+impl<T: Stands> Model for Turnstile<T> {
+    ghost use Rattle.turnstile.specs.Shown.{ShownTurnstile};
+
+    ghost Value = { ShownTurnstile T };
+
+    ghost use Rattle.turnstile.specs.Gates.{shown_turnstile};
+
+    ghost view = { λ t. shown_turnstile t.gate };
 }

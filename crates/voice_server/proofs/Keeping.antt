@@ -1,4 +1,4 @@
--- What a store keeps over a turn.
+-- What a store keeps as it is opened, and over a turn.
 use Rattle.std.proofs.Common.{◌≡◌, ℕ, List, Some, sym, ap, subst, ◌∙◌, arith}
 use Rattle.std.specs.Prelude.{IsTrue}
 use Rattle.voice_outside.specs.Disk.{Told}
@@ -18,6 +18,16 @@ use Rattle.voice_server.specs.Served.{IsLegalFrom}
 
 goes_further : (most : ℕ) (a b c : Told) → GoesOn a b → Goes most b c → GoesOn a c
 goes_further most a b c p q = record { size = q.size ∙ p.size; honest = q.honest ∙ p.honest; later = (let x = p.later in let y = q.later in omega arith); faults = (let x = p.faults in let y = q.faults in omega arith) }
+
+-- a store that was just opened
+pub opened_kept : {D : Type 0} (told : D → Told) (disk : D) (s : Shown D) → s.origin ≡ disk → (first : State) × Keeps told first s × (IsTrue (told disk).honest → opened_from (told disk).bytes ≡ Some first)
+    → Goes 5 (told disk) (told s.disk) → IsKept told s
+opened_kept told disk s origin state goes = record {
+  first = state.0;
+  keeps = state.1;
+  opened = subst (λ d. IsTrue (told d).honest → opened_from (told d).bytes ≡ Some state.0) (sym origin) state.2;
+  goes = subst (λ d. GoesOn (told d) (told s.disk)) (sym origin) (record { size = goes.size; honest = goes.honest; later = goes.later; faults = goes.faults });
+}
 
 module _ {D : Type 0} (told : D → Told) where
   pub kept_on : (old new : Shown D) (most : ℕ) → IsKept told old → ((first : State) → Keeps told first old → Keeps told first new)

@@ -16,8 +16,8 @@ pub standing_send : (T : RattleType) (g : Ghosts T.Denot) → IsSend T → IsSen
 standing_send T g s = declared_send (standing_type T g) (store_send T g s, tt)
 
 -- a pass may go to another thread
-pub pass_moves : (T : RattleType) (g : Ghosts T.Denot) → IsSend T → IsSend (pass_row (standing_row T g) (born_row T))
-pass_moves T g s = pass_send (standing_row T g) (born_row T) (standing_send T g s)
+pub pass_moves : (T : RattleType) (g : Ghosts T.Denot) (h : Stood (standing_row T g).Denot (born_row T).Denot) → IsSend T → IsSend (pass_row (standing_row T g) (born_row T) h)
+pass_moves T g h s = pass_send (standing_row T g) (born_row T) h (standing_send T g s)
 
 -- a server may be shared
 pub hall_shared : (T : RattleType) (g : Ghosts T.Denot) (h : Stood (standing_row T g).Denot (born_row T).Denot) → IsSend T → IsSync (hall_row (standing_row T g) (born_row T) h)

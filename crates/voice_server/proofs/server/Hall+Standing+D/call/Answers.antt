@@ -1,4 +1,4 @@
-use Rattle.std.proofs.Common.{◌∙◌, ◌+◌, length, ap, sym}
+use Rattle.std.proofs.Common.{◌∙◌, ◌+◌, length, ap, sym, arith}
 use denote.Exit.{no}
 use denote.Param.Send.{param_send, arg_send}
 use Rattle.voice_store.specs.Shown.{history_of}
@@ -47,11 +47,14 @@ returns-clause-legal g c =
 pub returns-clause-ok : goal.returns-clause-ok
 returns-clause-ok g c =
     let e = c.enter-store.ensures in
-    let t = turned c.args.pass.now c.enter-store.new.pass c.leave.new.pass (history_of c.enter-store.result.store) (history_of c.apply-reply.new.self) c.requires.pass.0.3 e.caller e.mine e.seen.0 e.seen.1 c.leave.ensures.seen c.leave.ensures.mine in
+    let t = turned c.args.pass.now c.enter-store.new.pass c.leave.new.pass (history_of c.enter-store.result.store) (history_of c.apply-reply.new.self) c.requires.pass.0.positive e.caller e.mine e.seen.0 e.seen.1 c.leave.ensures.seen c.leave.ensures.mine in
     answered c.args.pass.now c.leave.new.pass c.args.pass.now.caller c.caller.result _ c.args.call (history_of c.enter-store.result.store) (history_of c.apply-reply.new.self) c.apply-reply.result (c.caller.ensures ∙ e.caller) t c.apply-reply.ensures.entry
 
 pub returns-clause-err : goal.returns-clause-err
 returns-clause-err g c =
     let e = c.enter-store.ensures in
-    let t = turned c.args.pass.now c.enter-store.new.pass c.leave.new.pass (history_of c.enter-store.result.store) (history_of c.apply-reply.new.self) c.requires.pass.0.3 e.caller e.mine e.seen.0 e.seen.1 c.leave.ensures.seen c.leave.ensures.mine in
+    let t = turned c.args.pass.now c.enter-store.new.pass c.leave.new.pass (history_of c.enter-store.result.store) (history_of c.apply-reply.new.self) c.requires.pass.0.positive e.caller e.mine e.seen.0 e.seen.1 c.leave.ensures.seen c.leave.ensures.mine in
     unanswered c.args.pass.now c.leave.new.pass c.args.pass.now.caller (history_of c.enter-store.result.store) (history_of c.apply-reply.new.self) c.apply-reply.result t c.apply-reply.ensures.err
+
+pub apply-reply-requires-clause-caller_most : goal.apply-reply-requires-clause-caller_most
+apply-reply-requires-clause-caller_most g c κs within = let few = c.enter-store.ensures.of.few in omega (arith, c.caller.ensures)
