@@ -100,7 +100,7 @@ impl Parts {
         }
     }
 
-    /// Takes out gathered rows of a class. A rope that loses its last row is idle since now. It takes one pass over the rows and a step for each of those that go, and no memory.
+    /// Takes out gathered rows of a class. A rope that loses its last row is idle since now. It finds each row by its key, and takes no memory.
     pub fn drop_gathered(&mut self, graces: &Graces, class: Class, going: &Going)
         ensures shows { (held : List (List Piece)) (d : Durable Spot) (keys : List (List ℕ)) → Shows held self.old d → IsOrderly self.old.form d → d.shape.graces ≡ graces.now → AreGoing class keys d.rows going.now → Shows held self.new (with_rows self.old.form (class_number class) d (rows_without class keys d.rows)) }
         ensures blocks { self.new.blocks ≡ self.old.blocks }
@@ -110,7 +110,7 @@ impl Parts {
         self.settle_all(graces, &going.ropes, class);
     }
 
-    /// Takes out the rows of a class with these keys. A rope that loses its last row is idle since now. It takes one pass over the rows and a step for each key; after `NoMemory` nothing has changed.
+    /// Takes out the rows of a class with these keys. A rope that loses its last row is idle since now. It finds each row by its key; after `NoMemory` nothing has changed.
     pub fn drop_rows(
         &mut self,
         alloc: Global,
