@@ -1,0 +1,19 @@
+//! Laws of the definitions, which the contracts of the layer above lean on.
+
+ghost use Rattle.playing.specs.Held.{HeldPassages};
+ghost use Rattle.playing.specs.Shown.{FeedsAreServed, PlaysAndStops};
+
+/// A Play and a Stop of the definitions, on the jobs of the program.
+pub fn plays_and_stops()
+    ensures { PlaysAndStops }
+{}
+
+/// A Feed of the definitions that nothing refuses, on the jobs of the program.
+pub fn feeds_are_served()
+    ensures { FeedsAreServed }
+{}
+
+/// The passages that the lanes hold, as their jobs change.
+pub fn held_passages()
+    ensures { HeldPassages }
+{}
