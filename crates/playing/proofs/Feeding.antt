@@ -9,7 +9,7 @@ use Rattle.playing.specs.declared.blocks.Block.{Block}
 use Rattle.playing.specs.declared.turns.Fed.{Fed}
 use Rattle.playing.specs.declared.turns.Fed.TheVariants.{Stopped, Ended, Window, Fault}
 use Rattle.playing.specs.Frames.{FramesState, ChangesLaneAlone, resident_at, is_in}
-use Rattle.playing.specs.Lanes.{LanesState, IsSentTo, IsSent, stopped_at, next_window}
+use Rattle.playing.specs.Lanes.{LanesState, IsSentTo, IsSent, IsOver, stopped_at, next_window, next_start, passage_length}
 use Rattle.playing.specs.Fed.{FedTo, IsStop}
 
 sent_from : (old mid : LanesState) (lane : ℕ) (w : List Piece) (lease : LeaseState) → mid.frames.keeper.pool ≡ old.frames.keeper.pool → IsSent mid lane w lease → IsSent old lane w lease
@@ -54,3 +54,11 @@ stop_fed block more lane Fault old new stop h = no stop h.0
   where
     no : {t : Bool} → t ≡ true → t ≡ false → ⊥
     no x y = cc
+
+-- a job of which a window comes next is not over
+pub not_over : (more : ℕ) (jobs : List Job) → stopped_at jobs ≡ false → next_start more jobs < passage_length jobs → IsOver more jobs → ⊥
+not_over more jobs goes rest (inl stopped) = no stopped goes
+  where
+    no : {t : Bool} → t ≡ true → t ≡ false → ⊥
+    no x y = cc
+not_over more jobs goes rest (inr over) = omega (arith, over, rest)

@@ -6,12 +6,12 @@ use Rattle.std.specs.List.{list_any}
 use Rattle.voice_units.specs.declared.pieces.Piece.{Piece}
 use Rattle.voice_units.specs.Blocks.{BlockPair}
 use Rattle.voice_units.proofs.PiecesOfRopes.{both}
-use Rattle.rope_table.specs.Table.{Table, Counts, uses_at, uses_in, uses_by, pieces_in}
+use Rattle.rope_table.specs.Table.{Every, Table, Counts, uses_at, uses_in, uses_by, pieces_in}
 use Rattle.play_queue.specs.declared.jobs.Job.{Job}
 use Rattle.play_queue.specs.Queued.{lane_of, stopped_job}
 use Rattle.playing.specs.declared.blocks.Block.{Block}
 use Rattle.playing.specs.Frames.{FramesState, AreUsed, resident_at, is_in}
-use Rattle.playing.specs.Lanes.{Every, new_job, stopped_at, home_with, sent, IsSentTo}
+use Rattle.playing.specs.Lanes.{new_job, stopped_at, home_with, sent, IsSentTo}
 use Rattle.playing.specs.Held.{held_one, held_in, held_by}
 use Rattle.playing.proofs.Letting.{uses_in-append, held-append}
 

@@ -2,7 +2,7 @@
 use Rattle.std.proofs.Common.{◌≡◌, ◌≢◌, ℕ, zero, suc, ◌+◌, ◌-◌, ◌<◌, ◌≤◌, ◌⊎◌, inl, inr, Bool, true, false, cond, ◌==◌, List, [], ◌∷◌, ◌++◌, length, map, get_or, set, drop, replicate, refl, sym, ◌∙◌, ap, ap₂, subst, arith, Option, Some, None}
 use Rattle.std.proofs.lemmas.Bool.{eqb-true, eq-eqb}
 use Rattle.std.proofs.Common.{Result, Ok, Err, OnOk}
-use Rattle.std.specs.Prelude.{IsOk}
+use Rattle.std.specs.Prelude.{IsOk, if◌then◌else◌}
 use Rattle.std.proofs.lemmas.List.{length-set, length-replicate, get_or-set_same, get_or-set_other}
 use Rattle.voice_units.specs.declared.pieces.Piece.{Piece}
 use Rattle.frame_pool.specs.declared.views.Part.{Part}
@@ -13,11 +13,12 @@ use Rattle.frame_pool.specs.Words.{total}
 use Rattle.frame_pool.specs.Rule.{idle_lane}
 use Rattle.frame_pool.specs.Steps.{lane_at, ended}
 use Rattle.frame_pool.specs.Pool.{Identity, lanes_of, stage_of, hint_of, mark_of, word_of}
+use Rattle.rope_table.specs.Table.{Every}
 use Rattle.play_queue.specs.declared.jobs.Job.{Job}
 use Rattle.play_queue.specs.Queued.{lane_of, heard_more, with_window, stopped_job, first_job}
 use Rattle.playing.specs.Frames.{FramesState, ChangesLaneAlone}
 use Rattle.playing.specs.Windows.{IsOut}
-use Rattle.playing.specs.Lanes.{LanesState, AreLanes, LaneStands, HasBegun, IsWaiting, Every, new_job, window_at, stopped_at, taken_at, home_with, sent}
+use Rattle.playing.specs.Lanes.{LanesState, AreLanes, LaneStands, HasBegun, IsWaiting, new_job, window_at, stopped_at, taken_at, home_with, sent}
 
 -- all but one lane stay
 pub record OneLane (q q' : List (List Job)) (s s' : FramesState) (taken taken' : List Bool) (lane : ℕ) : Type 0 where
@@ -231,6 +232,30 @@ look_lanes q s s' taken lane h changes stage hint mark =
     (record { count = refl; takens = refl; lanes = ap (λ (p : Identity). p.sizes.lanes) changes.keeper.pool; jobs = λ l ne. refl; known = λ l ne. changes.keeper.others l ne; marks = λ l ne. refl })
     (h.begun lane)
     (stands_looked (window_at (lane_of q lane)) (stopped_at (lane_of q lane)) (lane_at s.keeper.view lane) (lane_at s'.keeper.view lane) (taken_at taken lane) stage hint mark (h.stands lane))
+
+look_either : (b : Bool) (now old : Stage) → now ≡ (if b then ended old else old) → (now ≡ old) ⊎ (now ≡ ended old)
+look_either true now old is = inr is
+look_either false now old is = inl is
+
+pub looked_lanes : (q : List (List Job)) (s s' : FramesState) (taken : List Bool) (lane : ℕ) (b : Bool) → AreLanes q s taken → ChangesLaneAlone s s' lane → stage_of s'.keeper lane ≡ (if b then ended (stage_of s.keeper lane) else stage_of s.keeper lane) → hint_of s'.keeper lane ≡ hint_of s.keeper lane → mark_of s'.keeper lane ≡ mark_of s.keeper lane → AreLanes q s' taken
+looked_lanes q s s' taken lane b h changes stage hint mark = look_lanes q s s' taken lane h changes (look_either b (stage_of s'.keeper lane) (stage_of s.keeper lane) stage) hint mark
+
+-- ---- a lease that was taken back before
+
+-- a lane that is free though a window of it is out: its lease was taken back
+pub taken_back : (w : ℕ) (stopped : Bool) (d : LaneState) (t : Bool) → LaneStands w stopped d t → 0 < w → d.stage ≡ Free → t ≡ true
+taken_back w stopped d true h some free = refl
+taken_back w stopped d false h some free = absurd (still_out (h.out some refl) free)
+  where
+    still_out : {n : ℕ} {st : Stage} → IsOut n st → st ≡ Free → ⊥
+    still_out (inl (ps, is, sum)) e = apart (sym is ∙ e)
+      where
+        apart : {ps : List Part} → Handed ps ≡ Free → ⊥
+        apart e = cc
+    still_out (inr is) e = apart (sym is ∙ e)
+      where
+        apart : {n : ℕ} → Ended n ≡ Free → ⊥
+        apart e = cc
 
 -- ---- lanes without jobs
 

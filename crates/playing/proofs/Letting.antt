@@ -4,7 +4,7 @@ use Rattle.std.specs.Prelude.{slice_get}
 use Rattle.std.proofs.lemmas.Bool.{eqb-true, eq-eqb}
 use Rattle.std.proofs.lemmas.List.{append-nil}
 use Rattle.voice_units.specs.declared.pieces.Piece.{Piece}
-use Rattle.voice_units.specs.Spots.{spots_of}
+use Rattle.voice_units.specs.Spots.{spots_of, stretches}
 use Rattle.voice_units.specs.Blocks.{BlockPair, pairs_at, has_pair}
 use Rattle.rope_table.specs.Table.{Table, Counts, uses_at, uses_in, uses_by, pieces_in, pair_of}
 use Rattle.voice_blocks.specs.Holders.{Holders, EachBecomes, holder_at}
@@ -15,7 +15,7 @@ use Rattle.voice_blocks.specs.declared.owner.Holder.{Holder}
 use Rattle.collector.specs.Freed.{freed}
 use Rattle.collector.proofs.Released.{same_freed, none_freed, same_becomes}
 use Rattle.play_queue.specs.declared.jobs.Job.{Job}
-use Rattle.playing.specs.Held.{held_one, held_in, passages_have, LetsGo}
+use Rattle.playing.specs.Held.{held_one, held_in, passages_have, stretch_count, LetsGo}
 
 -- ---- what becomes of an address, as in the collector
 
@@ -124,14 +124,38 @@ held_to js k j at = ap held_in (take_one js k j at).0 ∙ held-append (take k js
 pub held_from : (js : List Job) (k : ℕ) (j : Job) → slice_get js k ≡ Some j → held_in js ≡ held_in (take k js) ++ (held_one j ++ held_in (drop (k + 1) js))
 held_from js k j at = ap held_in (take_one js k j at).1 ∙ held-append (take k js) (j ∷ drop (k + 1) js)
 
+held_skipped : (js : List Job) (k : ℕ) (j : Job) → slice_get js k ≡ Some j → j.stopped ≡ true → held_in (take (k + 1) js) ≡ held_in (take k js)
+held_skipped js k j at stopped = held_to js k j at ∙ ap (λ b. held_in (take k js) ++ cond b [] (j.passage ∷ [])) stopped ∙ append-nil (held_in (take k js))
+
+held_gone : (js : List Job) (k : ℕ) (j : Job) → slice_get js k ≡ Some j → j.stopped ≡ false → held_in (take (k + 1) js) ≡ held_in (take k js) ++ j.passage ∷ []
+held_gone js k j at goes = held_to js k j at ∙ ap (λ b. held_in (take k js) ++ cond b [] (j.passage ∷ [])) goes
+
+-- ---- steps
+
+stretch_count-append : (block : ℕ) (xs ys : List (List Piece)) → stretch_count block (xs ++ ys) ≡ stretch_count block xs + stretch_count block ys
+stretch_count-append block [] ys = omega arith
+stretch_count-append block (x ∷ xs) ys = let rest = stretch_count-append block xs ys in omega (arith, rest)
+
+pub steps_skipped : (block first now : ℕ) (js : List Job) (k : ℕ) (j : Job) → slice_get js k ≡ Some j → j.stopped ≡ true → now ≡ first + stretch_count block (held_in (take k js)) → now ≡ first + stretch_count block (held_in (take (k + 1) js))
+steps_skipped block first now js k j at stopped is = is ∙ ap (λ xs. first + stretch_count block xs) (sym (held_skipped js k j at stopped))
+
+pub steps_gone : (block own first now next : ℕ) (js : List Job) (k : ℕ) (j : Job) → slice_get js k ≡ Some j → j.stopped ≡ false → own ≡ block → now ≡ first + stretch_count block (held_in (take k js)) → next ≡ now + stretch_count own (j.passage ∷ []) → next ≡ first + stretch_count block (held_in (take (k + 1) js))
+steps_gone block own first now next js k j at goes same is more =
+    let all = ap (stretch_count block) (held_gone js k j at goes) ∙ stretch_count-append block (held_in (take k js)) (j.passage ∷ []) in
+    let one = ap (λ n. stretch_count n (j.passage ∷ [])) same in
+    omega (arith, all, one, is, more)
+
+pub steps_of_one : (block own first next : ℕ) (p : List Piece) → own ≡ block → next ≡ first + length (stretches own (spots_of p)) → next ≡ first + stretch_count block (p ∷ [])
+steps_of_one block own first next p same is = let one = ap (λ n. length (stretches n (spots_of p))) same in omega (arith, one, is)
+
 -- one more job was looked at
 pub job_skipped : (t_0 t : Table) (h_0 h : Holders) (js : List Job) (k : ℕ) (j : Job) → slice_get js k ≡ Some j → j.stopped ≡ true → LetsGo t_0 t h_0 h (held_in (take k js)) → LetsGo t_0 t h_0 h (held_in (take (k + 1) js))
 job_skipped t_0 t h_0 h js k j at stopped f =
-    subst (LetsGo t_0 t h_0 h) (sym (held_to js k j at ∙ ap (λ b. held_in (take k js) ++ cond b [] (j.passage ∷ [])) stopped ∙ append-nil (held_in (take k js)))) f
+    subst (LetsGo t_0 t h_0 h) (sym (held_skipped js k j at stopped)) f
 
 pub job_gone : (t_0 t t' : Table) (h_0 h h' : Holders) (js : List Job) (k : ℕ) (j : Job) → slice_get js k ≡ Some j → j.stopped ≡ false → LetsGo t_0 t h_0 h (held_in (take k js)) → LetsGo t t' h h' (j.passage ∷ []) → LetsGo t_0 t' h_0 h' (held_in (take (k + 1) js))
 job_gone t_0 t t' h_0 h h' js k j at goes f s =
-    subst (LetsGo t_0 t' h_0 h') (sym (held_to js k j at ∙ ap (λ b. held_in (take k js) ++ cond b [] (j.passage ∷ [])) goes)) (let_go_twice t_0 t t' h_0 h h' (held_in (take k js)) (j.passage ∷ []) f s)
+    subst (LetsGo t_0 t' h_0 h') (sym (held_gone js k j at goes)) (let_go_twice t_0 t t' h_0 h h' (held_in (take k js)) (j.passage ∷ []) f s)
 
 pub job_held : (t_0 t : Table) (h_0 h : Holders) (js : List Job) (k : ℕ) (j : Job) (rest : List (List Piece)) → slice_get js k ≡ Some j → j.stopped ≡ false → LetsGo t_0 t h_0 h (held_in (take k js)) → Counts t_0 (held_in js ++ rest) → Counts t (j.passage ∷ (held_in (drop (k + 1) js) ++ rest))
 job_held t_0 t h_0 h js k j rest at goes f c =

@@ -1,6 +1,6 @@
 -- The definitions' Play, Stop and Feed, on the jobs of the program.
-use Rattle.std.proofs.Common.{◌≡◌, ℕ, zero, suc, ◌+◌, ◌<◌, ◌≤◌, Bool, true, false, ◌||◌, cond, ◌==◌, not, List, [], ◌∷◌, ◌++◌, length, map, get_or, set, drop, take, refl, sym, ◌∙◌, ap, ap₂, subst, arith, Option, Some, None}
-use Rattle.std.specs.Prelude.{count_by}
+use Rattle.std.proofs.Common.{◌≡◌, ℕ, zero, suc, ◌+◌, ◌<◌, ◌≤◌, Bool, true, false, ◌&&◌, ◌||◌, cond, ◌==◌, not, List, [], ◌∷◌, ◌++◌, length, map, get_or, set, drop, take, refl, sym, ◌∙◌, ap, ap₂, subst, arith, Option, Some, None}
+use Rattle.std.specs.Prelude.{count_by, nat_lt}
 use Rattle.std.proofs.lemmas.Bool.{eq-eqb, ne_eqb}
 use Rattle.std.proofs.lemmas.List.Folds.{fold-map}
 use Rattle.std.proofs.lemmas.List.{map-append, length-map, get_or-set_same}
@@ -10,7 +10,7 @@ use Rattle.rope_algebra.proofs.Parts.{length-spots_of}
 use Rattle.voice_model.specs.Samples.{Tagged, spot_of, spots_in_rope}
 use Rattle.voice_model.specs.State.{State, LaneState, lane_at, with_lane, samples_of, quiet_lane}
 use Rattle.voice_model.specs.State as model
-use Rattle.voice_model.specs.Step.{with_jobs, reply_of, on_lanes, served, played_on, heard_more, brought_back, first_job, reply_of_feed}
+use Rattle.voice_model.specs.Step.{Outcome, with_jobs, reply_of, on_lanes, reaches_device, state_by, has_more, served, played_on, heard_more, brought_back, first_job, reply_of_feed}
 use Rattle.voice_model.specs.Step as step
 use Rattle.voice_model.specs.declared.calls.Call.TheVariants as calls
 use Rattle.voice_model.specs.declared.calls.Reply.{Reply}
@@ -139,3 +139,23 @@ pub newly : (fill : Spot → Tagged) (s : State) (tapes : List (List ℕ)) (lane
 newly fill s tapes lane jobs shows =
     ap (λ (xs : List model.Job). replies.Number (count_by (λ job. not job.stopped) xs)) shows
     ∙ ap replies.Number (fold-map (λ a (x : model.Job). a + cond (not x.stopped) 1 0) (shown_job fill) 0 jobs)
+
+-- ---- whether a device is reached, and what a fault leaves
+
+pub fed_reaches : (fill : Spot → Tagged) (s : State) (tapes : List (List ℕ)) (lane : ℕ) (back : Option ℕ) (js : List Job) → IsFed fill s lane back js → reaches_device s tapes (calls.Feed lane back) ≡ (not (stopped_at js) && nat_lt (next_start (more_of back) js) (passage_length js))
+fed_reaches fill s tapes lane back [] h = absurd (omega (arith, h.some))
+fed_reaches fill s tapes lane back (j ∷ js) h =
+    ap (λ (xs : List model.Job). has_more (first_job xs)) (home_jobs fill s lane back (j ∷ js) h)
+    ∙ ap (λ n. not j.stopped && nat_lt (j.heard + more_of back) n) (shown_length fill j)
+
+set-own : {A : Type 0} (xs : List A) (i : ℕ) (d : A) → xs ≡ set xs i (get_or xs i d)
+set-own [] i d = refl
+set-own (x ∷ xs) zero d = refl
+set-own (x ∷ xs) (suc i) d = ap (λ l. x ∷ l) (set-own xs i d)
+
+pub fed_faulted : (fill : Spot → Tagged) (s : State) (tapes : List (List ℕ)) (lane : ℕ) (back : Option ℕ) (js : List Job) → IsFed fill s lane back js → state_by Outcome.Faulted s tapes (calls.Feed lane back) ≡ state_with fill s lane (home_with (more_of back) js)
+fed_faulted fill s tapes lane None js h =
+    ap (λ (lanes : List LaneState). record s { lanes = lanes }) (set-own s.lanes lane quiet_lane)
+    ∙ ap (λ (xs : List model.Job). with_lane s lane (with_jobs (lane_at s lane) xs)) (home_jobs fill s lane None js h)
+fed_faulted fill s tapes lane (Some m) js h =
+    ap (λ (xs : List model.Job). with_lane s lane (with_jobs (lane_at s lane) xs)) (ap (heard_more m) h.shows ∙ home_map fill js m)

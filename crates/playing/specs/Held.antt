@@ -5,15 +5,15 @@
 --     LetsGo old new held left passages      what stays and what goes as these passages are let go
 use Rattle.std.specs.Prelude.{◌≡◌, ℕ, ◌+◌, ◌/◌, ◌<◌, Bool, true, false, ◌||◌, cond, List, [], ◌∷◌, ◌++◌, length, map, drop, slice_set}
 use Rattle.voice_units.specs.declared.pieces.Piece.{Piece}
-use Rattle.voice_units.specs.Spots.{spots_of}
+use Rattle.voice_units.specs.Spots.{spots_of, stretches}
 use Rattle.voice_units.specs.Blocks.{BlockPair, pairs_at, has_pair}
-use Rattle.rope_table.specs.Table.{Table, Counts, uses_at, uses_in}
+use Rattle.rope_table.specs.Table.{Every, Table, Counts, uses_at, uses_in}
 use Rattle.voice_blocks.specs.Holders.{Holders, EachBecomes}
 use Rattle.collector.specs.Freed.{freed}
 use Rattle.play_queue.specs.declared.jobs.Job.{Job}
 use Rattle.play_queue.specs.Queued.{lane_of, stopped_job}
 use Rattle.playing.specs.Frames.{FramesState, AreUsed}
-use Rattle.playing.specs.Lanes.{Every, new_job, stopped_at, home_with, IsSentTo}
+use Rattle.playing.specs.Lanes.{new_job, stopped_at, home_with, IsSentTo}
 use Rattle.playing.specs.Lanes as lanes
 
 -- the passage of a job that is not stopped
@@ -33,6 +33,11 @@ held_by (jobs ∷ queues) = held_in jobs ++ held_by queues
 abbrev pub passages_have : ℕ → List (List Piece) → BlockPair → Bool
 passages_have block [] pair = false
 passages_have block (ps ∷ passages) pair = has_pair (pairs_at block (spots_of ps)) pair || passages_have block passages pair
+
+-- how many stretches passages have
+abbrev pub stretch_count : ℕ → List (List Piece) → ℕ
+stretch_count block [] = 0
+stretch_count block (ps ∷ passages) = length (stretches block (spots_of ps)) + stretch_count block passages
 
 -- what stays and what goes as these passages are let go: the blocks go that nothing uses any longer
 pub record LetsGo (old new : Table) (held left : Holders) (passages : List (List Piece)) : Type 0 where

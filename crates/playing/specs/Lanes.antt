@@ -13,6 +13,7 @@ use Rattle.frame_pool.specs.declared.views.LaneState.{LaneState}
 use Rattle.frame_pool.specs.declared.views.Stage.TheVariants.{Free}
 use Rattle.frame_pool.specs.Steps.{lane_at}
 use Rattle.frame_pool.specs.Pool.{LeaseState, lanes_of, stage_of, mark_of, hint_of, word_of}
+use Rattle.rope_table.specs.Table.{Every}
 use Rattle.play_queue.specs.declared.jobs.Job.{Job}
 use Rattle.play_queue.specs.Queued.{lane_of, heard_more, with_window}
 use Rattle.playing.specs.declared.blocks.Block.{Block}
@@ -40,10 +41,6 @@ window_at (job ∷ jobs) = job.window
 abbrev pub stopped_at : List Job → Bool
 stopped_at [] = false
 stopped_at (job ∷ jobs) = job.stopped
-
-abbrev pub Every : {A : Type 0} → (A → Type 0) → List A → Type 0
-Every P [] = Unit {0}
-Every P (x ∷ xs) = P x × Every P xs
 
 -- of this job nothing is out or was heard
 pub record IsWaiting (job : Job) : Type 0 where
@@ -81,10 +78,6 @@ HintsTell s = (l : ℕ) → 0 < window_at (lane_of s.queues l) → hint_of s.fra
 abbrev pub IsBack : LanesState → ℕ → Type 0
 IsBack s lane = stage_of s.frames.keeper lane ≡ Free
 
--- the lanes with other jobs on one
-abbrev pub with_jobs : List (List Job) → ℕ → List Job → List (List Job)
-with_jobs queues lane jobs = slice_set queues lane jobs
-
 -- the first job, of which more was heard and that much is out
 abbrev pub sent : ℕ → ℕ → List Job → List Job
 sent more n [] = []
@@ -108,6 +101,10 @@ next_start more (job ∷ jobs) = job.heard + more
 abbrev pub passage_length : List Job → ℕ
 passage_length [] = 0
 passage_length (job ∷ jobs) = samples_in job.passage
+
+-- no window of the first job comes next, once more of it was heard: it was stopped, or heard to its end
+abbrev pub IsOver : ℕ → List Job → Type 0
+IsOver more jobs = (stopped_at jobs ≡ true) ⊎ (next_start more jobs ≡ passage_length jobs)
 
 -- blocks of a window got into frames that no lane reads, and then a lane was granted parts of frames
 pub record IsSentTo (block : ℕ) (window : List Piece) (lane : ℕ) (old new : FramesState) : Type 0 where

@@ -3,14 +3,14 @@
 --     ShowsLane fill jobs lane      the jobs of a lane are these
 --     more_of back      how much more of the first job was heard, as a window is brought back
 --     FeedIs fill s tapes lane back jobs reply      a Feed that nothing refuses replies so, and leaves these jobs on the lane
---     PlayIs, StopIs      the same of a Play and of a Stop
-use Rattle.std.specs.Prelude.{◌≡◌, ℕ, ◌+◌, ◌≤◌, ◌<◌, Bool, true, false, List, [], ◌∷◌, ◌++◌, map, drop, length, Option, Some, None, count_by, not}
+--     FeedsAreServed, FeedsReach, PlaysAndStops      the laws
+use Rattle.std.specs.Prelude.{◌≡◌, ℕ, ◌+◌, ◌≤◌, ◌<◌, Bool, true, false, List, [], ◌∷◌, ◌++◌, map, drop, length, Option, Some, None, count_by, not, ◌&&◌, nat_lt}
 use Rattle.voice_units.specs.declared.pieces.Piece.{Piece}
 use Rattle.voice_units.specs.Spots.{Spot, spots_of, samples_in, slice}
 use Rattle.voice_model.specs.Samples.{Tagged, spot_of}
 use Rattle.voice_model.specs.State.{State, LaneState, lane_at, with_lane, samples_of}
 use Rattle.voice_model.specs.State as model
-use Rattle.voice_model.specs.Step.{with_jobs, reply_of, on_lanes}
+use Rattle.voice_model.specs.Step.{Outcome, with_jobs, reply_of, on_lanes, reaches_device, state_by}
 use Rattle.voice_model.specs.declared.calls.Call.TheVariants as calls
 use Rattle.voice_model.specs.declared.calls.Reply.{Reply}
 use Rattle.voice_model.specs.declared.calls.Reply.TheVariants as replies
@@ -61,6 +61,13 @@ pub record FeedsAreServed : Type 0 where
       → FeedIs fill s tapes lane back (drop 1 jobs) (replies.Ended (number_at jobs) (next_start (more_of back) jobs))
   pub window : (fill : Spot → Tagged) (s : State) (tapes : List (List ℕ)) (lane : ℕ) (back : Option ℕ) (jobs : List Job) → IsFed fill s lane back jobs → stopped_at jobs ≡ false → next_start (more_of back) jobs < passage_length jobs
       → FeedIs fill s tapes lane back (sent (more_of back) (samples_in (next_window s.shape.block (more_of back) jobs)) jobs) (replies.Window (next_start (more_of back) jobs) (samples_in (next_window s.shape.block (more_of back) jobs)))
+
+-- a Feed that nothing refuses reaches a device where a window comes, and nowhere else; after a fault the window that was brought back is home
+pub record FeedsReach : Type 0 where
+  pub reaches : (fill : Spot → Tagged) (s : State) (tapes : List (List ℕ)) (lane : ℕ) (back : Option ℕ) (jobs : List Job) → IsFed fill s lane back jobs
+      → reaches_device s tapes (calls.Feed lane back) ≡ (not (stopped_at jobs) && nat_lt (next_start (more_of back) jobs) (passage_length jobs))
+  pub faulted : (fill : Spot → Tagged) (s : State) (tapes : List (List ℕ)) (lane : ℕ) (back : Option ℕ) (jobs : List Job) → IsFed fill s lane back jobs
+      → state_by Outcome.Faulted s tapes (calls.Feed lane back) ≡ state_with fill s lane (home_with (more_of back) jobs)
 
 -- a Play that nothing refuses, and a Stop
 pub record PlaysAndStops : Type 0 where

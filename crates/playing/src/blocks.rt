@@ -11,17 +11,17 @@ pub struct Block {
     pub index: u32,
 }
 
-/// The parts of the frames that a lane's lease reads. Contracts see the list.
+// The parts of frames that a lane's lease reads. Contracts see the list.
 #[derive(Drop)]
-pub struct Held {
+pub(crate) struct LeasedParts {
     pub(crate) parts: Vec<Part>,
 }
 
-impl Model for Held {
+impl Model for LeasedParts {
     ghost use Rattle.std.specs.Prelude.{List};
     ghost use Rattle.frame_pool.specs.declared.views.Part.{Part};
 
     ghost Value = { List Part };
 
-    ghost view = { λ h. h.parts.items };
+    ghost view = { λ l. l.parts.items };
 }

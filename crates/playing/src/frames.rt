@@ -1,6 +1,6 @@
 //! Frames that hold blocks.
 
-ghost use Rattle.std.specs.Prelude.{◌%◌, [], None, map, replicate, ◌≡◌, ◌≢◌, ℕ, ◌*◌, ◌<◌, ◌≤◌, ◌^◌, ◌||◌, true, false, length, slice_set, Some, IfSome, IfNone, IfOk, OnOk, OnErr, IsErr, IsTrue, List, cond, ◌⊎◌, if◌then◌else◌};
+ghost use Rattle.std.specs.Prelude.{◌%◌, [], ◌∷◌, ◌++◌, ◌↔◌, None, map, replicate, ◌≡◌, ◌≢◌, ℕ, ◌*◌, ◌<◌, ◌≤◌, ◌^◌, ◌||◌, true, false, length, slice_set, Some, IfSome, IfNone, IfOk, OnOk, OnErr, IsErr, IsTrue, List, cond, ◌⊎◌, if◌then◌else◌};
 ghost use Rattle.std.specs.List.{list_any};
 ghost use Rattle.voice_units.specs.Layout.{bytes_needed};
 ghost use Rattle.voice_outside.specs.Counters.{HasRisen};
@@ -9,12 +9,12 @@ ghost use Rattle.voice_blocks.specs.Place.{block_place};
 ghost use Rattle.frame_pool.specs.declared.views.Stage.TheVariants.{Free};
 ghost use Rattle.voice_units.specs.Spots.{samples_in};
 ghost use Rattle.frame_pool.specs.Steps.{lane_at, is_free, ended};
-ghost use Rattle.frame_pool.specs.Pool.{lanes_of, block_of, stage_of, hint_of, mark_of, word_of, frame_of, spent, IsSpare};
+ghost use Rattle.frame_pool.specs.Pool.{lanes_of, block_of, stage_of, hint_of, mark_of, looks_of, word_of, frame_of, spent, IsSpare};
 ghost use Rattle.playing.specs.Frames.{has_frame, is_read, is_wanted, is_in, resident_at, HoldsBytes, AreOnDisk, HasAddress, OnlyReads, IsReadied, is_resident, HaveAddresses, HasRead, AreReady, IsBroughtIn, ChangesLaneAlone, missing, if_used, uses_of, Forgets, AreUsed, holds};
 ghost use Rattle.frame_pool.specs.Rule.{idle_lane};
 ghost use Rattle.playing.specs.Windows.{ArePartsOf, AreStretches, IsOut, IsLeaseOf};
 
-use crate::blocks::{Block, Held};
+use crate::blocks::{Block, LeasedParts};
 use frame_pool::{Keeper, Lease, Part, Pool};
 use rope_table::RopeTable;
 use std::alloc::Global;
@@ -25,10 +25,10 @@ use voice_units::{Failed, Lane, NoMemory, Piece, RopeId, Shape};
 
 /// The frames of a pool: which block each holds, and which parts each lane's lease reads.
 #[derive(Drop)]
-pub struct Frames {
+pub(crate) struct Frames {
     keeper: Keeper,
     resident: Vec<Option<Block>>,
-    readers: Vec<Held>,
+    readers: Vec<LeasedParts>,
     room: Vec<u8>,
 }
 
@@ -51,10 +51,10 @@ fn has_frame(parts: &[Part], frame: u32) -> bool
 }
 
 // Whether a lane reads a frame.
-fn is_read(readers: &[Held], frame: u32) -> bool
+fn is_read(readers: &[LeasedParts], frame: u32) -> bool
     ensures { result ≡ is_read readers.now frame }
 {
-    readers.iter().any(|held| has_frame(&held.parts, frame))
+    readers.iter().any(|lane| has_frame(&lane.parts, frame))
 }
 
 // Whether a stretch lies in a block.
@@ -91,7 +91,7 @@ fn is_wanted(window: &[Piece], block: u32, resident: Option<Block>) -> bool
 
 // A frame that no lane reads and that holds no block of a window: there is one where this lane reads none and a block of the window is in no frame.
 fn spare_frame(
-    readers: &[Held],
+    readers: &[LeasedParts],
     resident: &[Option<Block>],
     window: &[Piece],
     block: u32,
@@ -321,7 +321,7 @@ impl Frames {
     {
         let parts = self.parts_for(alloc, window, block)?;
         let lease = self.keeper.grant(alloc, lane, &parts)?;
-        self.readers[usize::from(lane.0)] = Held { parts };
+        self.readers[usize::from(lane.0)] = LeasedParts { parts };
         Ok(lease)
     }
 
@@ -353,16 +353,19 @@ impl Frames {
         self.keeper.hint(lane, on);
     }
 
-    /// Looks whether a lane's lease was released: its frames may be filled then.
-    pub fn observe(&mut self, lane: Lane)
+    /// Looks whether a lane's lease was released: then its frames may be filled.
+    pub fn observe(&mut self, lane: Lane) -> bool
         requires lane { lane < lanes_of self.old.keeper }
-        ensures stage { (stage_of self.new.keeper lane ≡ stage_of self.old.keeper lane) ⊎ (stage_of self.new.keeper lane ≡ ended (stage_of self.old.keeper lane)) }
+        ensures looks { (n : ℕ) × (looks_of self.new.keeper lane ≡ looks_of self.old.keeper lane ++ n ∷ []) × (IsTrue result ↔ (n ≡ 0)) }
+        ensures stage { stage_of self.new.keeper lane ≡ (if result then ended (stage_of self.old.keeper lane) else stage_of self.old.keeper lane) }
         ensures hint { (hint_of self.new.keeper lane ≡ hint_of self.old.keeper lane) × (mark_of self.new.keeper lane ≡ mark_of self.old.keeper lane) }
         ensures others { ChangesLaneAlone self.old self.new lane }
     {
-        if self.keeper.observe(lane) {
+        let over = self.keeper.observe(lane);
+        if over {
             self.readers[usize::from(lane.0)].parts.clear();
         }
+        over
     }
 }
 
@@ -389,12 +392,12 @@ fn keep_used(resident: &mut Vec<Option<Block>>, ropes: &RopeTable)
 }
 
 // No lane reads a frame.
-fn no_readers(alloc: Global, lanes: u16) -> Result<Vec<Held>, NoMemory>
+fn no_readers(alloc: Global, lanes: u16) -> Result<Vec<LeasedParts>, NoMemory>
     ensures { IfOk result (λ readers. readers.items ≡ replicate lanes []) }
 {
     let mut readers = Vec::with_capacity(alloc, usize::from(lanes))?;
     for _ in 0..lanes {
-        readers.push(Held {
+        readers.push(LeasedParts {
             parts: Vec::new(alloc),
         })?;
     }

@@ -1,14 +1,15 @@
 //! The jobs of the lanes, and the leases of their windows.
 
-ghost use Rattle.std.specs.Prelude.{if◌then◌else◌, IsOk, ◌*◌, ◌%◌, None, ◌≡◌, ◌≢◌, ◌⊎◌, ◌+◌, ◌<◌, ◌≤◌, ◌++◌, ◌∷◌, ℕ, [], Bool, true, false, List, Ok, Err, Some, slice_get, length, slice_set, drop, IfOk, IfSome, OnOk, OnErr, IsTrue, replicate, map, count_by, not};
+ghost use Rattle.std.specs.Prelude.{if◌then◌else◌, ◌↔◌, IsOk, ◌*◌, ◌%◌, None, ◌≡◌, ◌≢◌, ◌⊎◌, ◌+◌, ◌<◌, ◌≤◌, ◌++◌, ◌∷◌, ℕ, [], Bool, true, false, List, Ok, Err, Some, slice_get, length, slice_set, drop, IfOk, IfSome, OnOk, OnErr, IsTrue, replicate, map, count_by, not};
 ghost use Rattle.voice_units.specs.Layout.{bytes_needed};
 ghost use Rattle.voice_units.specs.Spots.{samples_in, spots_of};
 ghost use Rattle.voice_outside.specs.Counters.{HasRisen};
-ghost use Rattle.frame_pool.specs.Pool.{lanes_of, block_of, stage_of, spent};
+ghost use Rattle.frame_pool.specs.Pool.{lanes_of, block_of, stage_of, hint_of, looks_of, spent};
+ghost use Rattle.frame_pool.specs.Steps.{ended};
 ghost use Rattle.play_queue.specs.Queued.{lane_of, stopped_job};
 ghost use Rattle.playing.specs.Frames.{ChangesLaneAlone, HasRead, HaveAddresses, HoldsBytes, AreOnDisk, AreReady, missing, Forgets, AreUsed, uses_of, is_resident};
 ghost use Rattle.playing.specs.Windows.{byte_in};
-ghost use Rattle.playing.specs.Lanes.{new_job, window_at, stopped_at, taken_at, IsBack, HintsTell, home_with, next_window, next_start, passage_length, sent, IsSent, IsSentTo, IsTurn};
+ghost use Rattle.playing.specs.Lanes.{new_job, window_at, stopped_at, IsOver, IsBack, HintsTell, home_with, next_window, next_start, passage_length, sent, IsSent, IsSentTo, IsTurn};
 ghost use Rattle.playing.specs.Fed.{FedTo, HasSamples, IsStop};
 
 use crate::frames::Frames;
@@ -24,18 +25,18 @@ use voice_blocks::BlockMap;
 use voice_outside::Disk;
 use voice_units::{JobId, Lane, NoMemory, Piece, RopeId, Shape};
 
-/// Why a window is not handed out: a read failed, or there is no memory.
+// Why a window is not handed out: a read failed, or there is no memory.
 #[derive(Clone, Copy, Debug, PartialEq, Eq)]
-pub enum Trouble {
+enum Trouble {
     Failed,
     NoMemory,
 }
 
-/// Where a window begins, and its lease.
+// Where a window begins, and its lease.
 #[derive(Drop)]
-pub struct Sent {
-    pub at: u32,
-    pub lease: Lease,
+struct Sent {
+    at: u32,
+    lease: Lease,
 }
 
 // Where a window begins, and its stretches.
@@ -98,6 +99,7 @@ impl Lanes {
         requires lane { lane < length self.old.queues }
         ensures newly { result ≡ count_by (λ job. not job.stopped) (lane_of self.old.queues lane) }
         ensures queues { self.new.queues ≡ slice_set self.old.queues lane (map stopped_job (lane_of self.old.queues lane)) }
+        ensures hinted { hint_of self.new.frames.keeper lane ≡ 1 }
         ensures frames { ChangesLaneAlone self.old.frames self.new.frames lane }
         ensures taken { self.new.taken ≡ self.old.taken }
     {
@@ -111,13 +113,14 @@ impl Lanes {
         requires on { lease.old.lane ≡ lane }
         requires pool { lease.old.pool ≡ self.old.frames.keeper.pool }
         ensures fresh { lease.old.taken ≡ false → result ≡ true }
+        ensures again { lease.old.taken ≡ true → IsBack self.old lane → 0 < window_at (lane_of self.old.queues lane) → window_at (lane_of self.old.queues lane) ≡ lease.old.len → result ≡ true }
         ensures window { result ≡ true → (0 < window_at (lane_of self.old.queues lane)) × (window_at (lane_of self.old.queues lane) ≡ lease.old.len) }
         ensures hinted { lease.old.taken ≡ false → lease.old.hinted ≡ true → stopped_at (lane_of self.old.queues lane) ≡ true }
-        ensures back { result ≡ true → (IsBack self.new lane) × (taken_at self.new.taken lane ≡ true) }
+        ensures back { result ≡ true → IsBack self.new lane }
         ensures queues { self.new.queues ≡ self.old.queues }
         ensures frames { ChangesLaneAlone self.old.frames self.new.frames lane }
         ensures lease { lease.new ≡ (if lease.old.taken then lease.old else spent lease.old) }
-        ensures no { result ≡ false → (self.new ≡ self.old) × (lease.new ≡ lease.old) }
+        ensures no { result ≡ false → (lease.old.taken ≡ true) × (self.new ≡ self.old) }
     {
         let k = usize::from(lane.0);
         if !lease.taken_back() {
@@ -134,8 +137,8 @@ impl Lanes {
         job.window == lease.len()
     }
 
-    /// The window of a lane is back, and so much more of its first job was heard.
-    pub fn hear(&mut self, lane: Lane, more: u32)
+    // The window of a lane is back, and so much more of its first job was heard.
+    fn hear(&mut self, lane: Lane, more: u32)
         requires lane { lane < length self.old.queues }
         requires back { IsBack self.old lane }
         requires some { 0 < length (lane_of self.old.queues lane) }
@@ -147,8 +150,8 @@ impl Lanes {
         self.taken[usize::from(lane.0)] = false;
     }
 
-    /// Takes the first job of a lane out, of which nothing is out; `None` exactly where there is none.
-    pub fn end(&mut self, lane: Lane) -> Option<Job>
+    // Takes the first job of a lane out, of which nothing is out; `None` exactly where there is none.
+    fn end(&mut self, lane: Lane) -> Option<Job>
         requires lane { lane < length self.old.queues }
         requires home { window_at (lane_of self.old.queues lane) ≡ 0 }
         ensures value { result ≡ slice_get (lane_of self.old.queues lane) 0 }
@@ -190,8 +193,8 @@ impl Lanes {
         Ok(Next { at, window })
     }
 
-    /// Brings the next window of a lane's first job into frames, and hands out its lease. So much more of the job was heard; after an error that and the window that was out stay open. It reads each block of the window that is in no frame once.
-    pub fn send<D: Disk>(
+    // Brings the next window of a lane's first job into frames, and hands out its lease. So much more of the job was heard; after an error that and the window that was out stay open. It reads each block of the window that is in no frame once.
+    fn send<D: Disk>(
         &mut self,
         alloc: Global,
         shape: &Shape,
@@ -244,8 +247,8 @@ impl Lanes {
 }
 
 impl Lanes {
-    /// How a lane's first job goes on, once more of it was heard.
-    pub fn turn(&self, lane: Lane, more: u32) -> Turn
+    // How a lane's first job goes on, once more of it was heard.
+    fn turn(&self, lane: Lane, more: u32) -> Turn
         requires lane { lane < length self.now.queues }
         requires some { 0 < length (lane_of self.now.queues lane) }
         requires most { more ≤ window_at (lane_of self.now.queues lane) }
@@ -322,7 +325,7 @@ impl Lanes {
         }
     }
 
-    /// The next window of a lane's first job, once more of it was heard; or the job leaves the lane. After `NoMemory` the jobs are as before.
+    /// The next window of a lane's first job, once more of it was heard; or the job leaves the lane, which takes no memory and no device call. After `NoMemory` the jobs are as before.
     pub fn feed<D: Disk>(
         &mut self,
         alloc: Global,
@@ -343,6 +346,8 @@ impl Lanes {
         requires most { more ≤ window_at (lane_of self.old.queues lane) }
         requires addresses { stopped_at (lane_of self.old.queues lane) ≡ false → HaveAddresses shape.now.block blocks.now.holders (next_window shape.now.block more (lane_of self.old.queues lane)) }
         ensures made { HasRead (missing shape.now.block self.old.frames.resident (next_window shape.now.block more (lane_of self.old.queues lane))) (D.told disk.old) (D.told disk.new) }
+        ensures still { IsOver more (lane_of self.old.queues lane) → disk.new ≡ disk.old }
+        ensures spare { IsOver more (lane_of self.old.queues lane) → IsOk result }
         ensures fed { IfOk result (λ fed. FedTo shape.now.block more lane fed self.old self.new) }
         ensures fault { result ≡ Ok Fed.Fault → HasRisen (D.told disk.old).faults (D.told disk.new).faults }
         ensures frames { IsSentTo shape.now.block (next_window shape.now.block more (lane_of self.old.queues lane)) lane self.old.frames self.new.frames }
@@ -378,13 +383,15 @@ impl Lanes {
     }
 
     /// Looks whether the player of a lane released its lease: then its frames may be filled.
-    pub fn observe(&mut self, lane: Lane)
+    pub fn observe(&mut self, lane: Lane) -> bool
         requires lane { lane < length self.old.queues }
         ensures queues { self.new.queues ≡ self.old.queues }
         ensures taken { self.new.taken ≡ self.old.taken }
+        ensures looks { (n : ℕ) × (looks_of self.new.frames.keeper lane ≡ looks_of self.old.frames.keeper lane ++ n ∷ []) × (IsTrue result ↔ (n ≡ 0)) }
+        ensures stage { stage_of self.new.frames.keeper lane ≡ (if result then ended (stage_of self.old.frames.keeper lane) else stage_of self.old.frames.keeper lane) }
         ensures frames { ChangesLaneAlone self.old.frames self.new.frames lane }
     {
-        self.frames.observe(lane);
+        self.frames.observe(lane)
     }
 
     /// Blocks that nothing uses are not known to be in a frame any longer.
@@ -429,6 +436,8 @@ impl Lanes {
         requires most { heard ≤ lease.old.len }
         requires addresses { stopped_at (lane_of self.old.queues lane) ≡ false → HaveAddresses shape.now.block blocks.now.holders (next_window shape.now.block heard (lane_of self.old.queues lane)) }
         ensures made { HasRead (missing shape.now.block self.old.frames.resident (next_window shape.now.block heard (lane_of self.old.queues lane))) (D.told disk.old) (D.told disk.new) }
+        ensures still { IsOver heard (lane_of self.old.queues lane) → disk.new ≡ disk.old }
+        ensures spare { lease.old.taken ≡ false → IsOver heard (lane_of self.old.queues lane) → IsOk result }
         ensures fed { IfOk result (λ fed. FedTo shape.now.block heard lane fed self.old self.new) }
         // It brings back the window that is out.
         ensures window { IsOk result → (0 < window_at (lane_of self.old.queues lane)) × (window_at (lane_of self.old.queues lane) ≡ lease.old.len) }
@@ -437,7 +446,8 @@ impl Lanes {
         ensures frames { IsSentTo shape.now.block (next_window shape.now.block heard (lane_of self.old.queues lane)) lane self.old.frames self.new.frames }
         ensures bytes { IsTrue (D.told disk.old).honest → (bytes : ℕ → ℕ → List ℕ) → AreOnDisk bytes shape.now (D.told disk.old).bytes blocks.now.holders → HoldsBytes bytes self.old.frames → HoldsBytes bytes self.new.frames }
         ensures samples { IsTrue (D.told disk.old).honest → (bytes : ℕ → ℕ → List ℕ) → AreOnDisk bytes shape.now (D.told disk.old).bytes blocks.now.holders → HoldsBytes bytes self.old.frames → IfOk result (HasSamples bytes shape.now.block (next_window shape.now.block heard (lane_of self.old.queues lane))) }
-        ensures err { OnErr result (self.new.queues ≡ self.old.queues) }
+        // The lease is back then, and is known again; or it was before, as one of another window, and nothing changed.
+        ensures err { OnErr result ((self.new.queues ≡ self.old.queues) × (IsBack self.new lane ⊎ ((lease.old.taken ≡ true) × (self.new ≡ self.old)))) }
         ensures lease { lease.new ≡ (if lease.old.taken then lease.old else spent lease.old) }
     {
         if !self.bring_back(lane, lease) {

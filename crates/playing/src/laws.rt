@@ -1,7 +1,7 @@
 //! Laws of the definitions, which the contracts of the layer above lean on.
 
 ghost use Rattle.playing.specs.Held.{HeldPassages};
-ghost use Rattle.playing.specs.Shown.{FeedsAreServed, PlaysAndStops};
+ghost use Rattle.playing.specs.Shown.{FeedsAreServed, FeedsReach, PlaysAndStops};
 
 /// A Play and a Stop of the definitions, on the jobs of the program.
 pub fn plays_and_stops()
@@ -11,6 +11,11 @@ pub fn plays_and_stops()
 /// A Feed of the definitions that nothing refuses, on the jobs of the program.
 pub fn feeds_are_served()
     ensures { FeedsAreServed }
+{}
+
+/// When a Feed of the definitions reaches a device, and what a fault leaves.
+pub fn feeds_reach()
+    ensures { FeedsReach }
 {}
 
 /// The passages that the lanes hold, as their jobs change.

@@ -9,8 +9,7 @@ mod passages;
 mod turns;
 mod windows;
 
-pub use blocks::{Block, Held};
-pub use frames::Frames;
-pub use lanes::{Lanes, Sent, Trouble};
+pub use blocks::Block;
+pub use lanes::Lanes;
 pub use passages::{let_go, let_go_jobs};
-pub use turns::{Fed, Turn};
+pub use turns::Fed;

@@ -4,7 +4,7 @@ ghost use Rattle.std.specs.Prelude.{◌≡◌, ◌+◌, ◌≤◌, ◌<◌, ◌+
 ghost use Rattle.voice_units.specs.declared.Piece.{Piece};
 ghost use Rattle.rope_table.specs.Table.{Counts};
 ghost use Rattle.play_queue.specs.Queued.{lane_of};
-ghost use Rattle.playing.specs.Held.{LetsGo, held_in};
+ghost use Rattle.playing.specs.Held.{LetsGo, held_in, stretch_count};
 
 use collector::drop_unused;
 use play_queue::Queues;
@@ -14,7 +14,7 @@ use std::sync::ledger::Ledger;
 use voice_blocks::BlockMap;
 use voice_units::{Lane, Steps};
 
-/// Holds a passage no longer, and drops the blocks of it that nothing uses then.
+/// Holds a passage no longer, and drops the blocks of it that nothing uses then: a step for each of its stretches.
 pub fn let_go<L: Ledger>(
     ropes: &mut RopeTable,
     blocks: &mut BlockMap,
@@ -24,6 +24,7 @@ pub fn let_go<L: Ledger>(
     requires held { (rest : List (List Piece)) × Counts ropes.old (passage.now ∷ rest) }
     ensures gone { LetsGo ropes.old ropes.new blocks.old.holders blocks.new.holders (passage.now ∷ []) }
     ensures spare { blocks.new.spare ≡ blocks.old.spare }
+    ensures steps { steps.new ≡ steps.old + stretch_count ropes.old.block (passage.now ∷ []) }
 {
     ropes.release(passage);
     drop_unused(ropes, blocks, passage, steps);
@@ -41,6 +42,7 @@ pub fn let_go_jobs<L: Ledger>(
     requires held { (rest : List (List Piece)) × Counts ropes.old (held_in (lane_of queues.now lane) ++ rest) }
     ensures gone { LetsGo ropes.old ropes.new blocks.old.holders blocks.new.holders (held_in (lane_of queues.now lane)) }
     ensures spare { blocks.new.spare ≡ blocks.old.spare }
+    ensures steps { steps.new ≡ steps.old + stretch_count ropes.old.block (held_in (lane_of queues.now lane)) }
 {
     for k in 0..queues.count(lane) {
         let Some(job) = queues.job(lane, k) else {

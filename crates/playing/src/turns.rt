@@ -3,9 +3,9 @@
 use frame_pool::Lease;
 use play_queue::Job;
 
-/// How a lane's first job goes on: it was stopped, it was heard to its end, or a window of it comes next.
+// How a lane's first job goes on: it was stopped, it was heard to its end, or a window of it comes next.
 #[derive(Clone, Copy, Debug, PartialEq, Eq)]
-pub enum Turn {
+pub(crate) enum Turn {
     Stopped,
     Ended,
     Plays,

@@ -12,8 +12,8 @@ use Rattle.playing.proofs.frames.Frames.observe.Goals as goal
 pub invariant_of-self : goal.invariant_of-self
 invariant_of-self c =
     let k = c.self.inside.keeper in
-    let over : stage_of c.observe.new.self c.args.lane ≡ ended (stage_of k c.args.lane) = c.if-observe.ensures.stage in
-    frames_lane k c.observe.new.self c.self.inside.resident.items c.self.inside.readers.items _ c.args.lane c.from.result c.clear.new.self.items c.self.invariant c.observe.ensures.others
+    let over : stage_of c.observe-over.new.self c.args.lane ≡ ended (stage_of k c.args.lane) = c.observe-over.ensures.stage ∙ ap (λ b. if b then ended (stage_of k c.args.lane) else stage_of k c.args.lane) c.if-over.true in
+    frames_lane k c.observe-over.new.self c.self.inside.resident.items c.self.inside.readers.items _ c.args.lane c.from.result c.clear.new.self.items c.self.invariant c.observe-over.ensures.others
     (c.from.ensures ∙ c.lane.view_is)
     (subst (λ (s : FramesState). c.args.lane < lanes_of s.keeper) (sym c.self.view_is) c.requires.lane)
     (ap parts_of over ∙ ended_parts (stage_of k c.args.lane) (c.self.invariant.unreserved c.args.lane) ∙ sym c.clear.ensures.items)
