@@ -1,12 +1,12 @@
 -- The blocks of a window are brought in one after another.
-use Rattle.std.proofs.Common.{◌≡◌, ◌≢◌, ℕ, zero, suc, ◌+◌, ◌-◌, ◌*◌, ◌/◌, ◌<◌, ◌≤◌, ◌⊎◌, inl, inr, Bool, true, false, ◌&&◌, ◌||◌, cond, ◌==◌, List, [], ◌∷◌, ◌++◌, length, drop, refl, sym, ◌∙◌, ap, ap₂, subst, arith, Option, Some, None, get_or, set}
+use Rattle.std.proofs.Common.{◌≡◌, ◌≢◌, ℕ, zero, suc, ◌+◌, ◌/◌, ◌<◌, ◌≤◌, ◌⊎◌, inl, inr, Bool, true, false, ◌&&◌, ◌||◌, cond, ◌==◌, List, [], ◌∷◌, length, drop, refl, sym, ◌∙◌, ap, ap₂, subst, arith, Option, Some, get_or}
 use Rattle.std.proofs.lemmas.Bool.{eqb-true, eq-eqb}
-use Rattle.std.proofs.lemmas.List.{drop_more, length-set}
-use Rattle.std.specs.Prelude.{slice_get, Result, IsErr, IsTrue}
+use Rattle.std.proofs.lemmas.List.{drop_more}
+use Rattle.std.specs.Prelude.{slice_get, Result, IsTrue}
 use Rattle.std.specs.List.{list_any}
 use Rattle.voice_units.specs.declared.pieces.Piece.{Piece}
 use Rattle.voice_units.specs.declared.shapes.Shape.{Shape}
-use Rattle.voice_outside.specs.Disk.{Told, Elapses, MakesAtMost}
+use Rattle.voice_outside.specs.Disk.{Told, MakesAtMost}
 use Rattle.voice_blocks.specs.Holders.{Holders}
 use Rattle.playing.specs.declared.blocks.Block.{Block}
 use Rattle.playing.specs.Frames.{FramesState, resident_at, block_at, is_resident, holds, is_in, is_wanted, missing, HoldsBytes, AreOnDisk, OnlyReads, HasRead, IsLoaded, IsReadied, IsBroughtIn, IsReady, AreReady}

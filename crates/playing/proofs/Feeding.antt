@@ -1,5 +1,5 @@
 -- A lane is fed after its lease came back.
-use Rattle.std.proofs.Common.{◌≡◌, ◌≢◌, ℕ, ◌+◌, ◌<◌, ◌≤◌, ◌⊎◌, inl, inr, Bool, true, false, List, [], ◌∷◌, length, refl, sym, ◌∙◌, ap, ap₂, subst, arith, Option, Some, None}
+use Rattle.std.proofs.Common.{◌≡◌, ◌≢◌, ℕ, ◌<◌, ◌⊎◌, inl, inr, Bool, true, false, List, sym, ◌∙◌, ap, subst, arith, Some}
 use Rattle.std.specs.List.{list_any}
 use Rattle.voice_units.specs.declared.pieces.Piece.{Piece}
 use Rattle.play_queue.specs.declared.jobs.Job.{Job}

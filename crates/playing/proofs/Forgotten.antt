@@ -1,12 +1,12 @@
 -- Blocks that nothing uses are forgotten.
-use Rattle.std.proofs.Common.{◌≡◌, ◌≢◌, ℕ, zero, suc, ◌+◌, ◌<◌, ◌≤◌, Bool, true, false, cond, List, [], ◌∷◌, length, map, get_or, set, refl, sym, ◌∙◌, ap, subst, arith, Option, Some, None}
+use Rattle.std.proofs.Common.{◌≡◌, ℕ, zero, suc, ◌<◌, ◌≤◌, Bool, true, false, cond, List, [], ◌∷◌, length, map, refl, sym, ◌∙◌, ap, subst, arith, Option, Some, None}
 use Rattle.std.specs.Prelude.{nat_lt}
 use Rattle.std.proofs.lemmas.List.{length-map}
 use Rattle.std.proofs.lemmas.Bool.{ltb-true}
 use Rattle.frame_pool.specs.declared.views.Part.{Part}
-use Rattle.frame_pool.specs.Pool.{KeeperState, lanes_of, frame_of}
+use Rattle.frame_pool.specs.Pool.{KeeperState, frame_of}
 use Rattle.playing.specs.declared.blocks.Block.{Block}
-use Rattle.playing.specs.Frames.{FramesState, IsFrames, HoldsBytes, AreUsed, resident_at, if_used}
+use Rattle.playing.specs.Frames.{FramesState, IsFrames, HoldsBytes, resident_at, if_used}
 
 -- the first n are gone over
 pub record IsHalfUsed (uses : ℕ → ℕ → ℕ) (n : ℕ) (old new : List (Option Block)) : Type 0 where

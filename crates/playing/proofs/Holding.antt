@@ -1,18 +1,17 @@
 -- The held passages, as the lanes' jobs change.
-use Rattle.std.proofs.Common.{◌≡◌, ℕ, zero, suc, ◌+◌, ◌/◌, ◌<◌, ◌≤◌, ◌⊎◌, inl, inr, Bool, true, false, ◌&&◌, ◌||◌, cond, ◌==◌, List, [], ◌∷◌, ◌++◌, length, map, drop, set, refl, sym, ◌∙◌, ap, ap₂, subst, arith, Option, Some, None}
+use Rattle.std.proofs.Common.{◌≡◌, ℕ, zero, suc, ◌+◌, ◌/◌, ◌<◌, ◌⊎◌, inl, inr, Bool, true, false, ◌||◌, cond, ◌==◌, List, [], ◌∷◌, ◌++◌, length, map, drop, set, refl, sym, ap, subst, arith, Some}
 use Rattle.std.proofs.lemmas.Bool.{eqb-true}
-use Rattle.std.proofs.lemmas.List.{append-nil}
 use Rattle.std.specs.List.{list_any}
 use Rattle.voice_units.specs.declared.pieces.Piece.{Piece}
 use Rattle.voice_units.specs.Blocks.{BlockPair}
 use Rattle.voice_units.proofs.PiecesOfRopes.{both}
-use Rattle.rope_table.specs.Table.{Every, Table, Counts, uses_at, uses_in, uses_by, pieces_in}
+use Rattle.rope_table.specs.Table.{Every, Table, Counts, uses_in}
 use Rattle.play_queue.specs.declared.jobs.Job.{Job}
 use Rattle.play_queue.specs.Queued.{lane_of, stopped_job}
 use Rattle.playing.specs.declared.blocks.Block.{Block}
 use Rattle.playing.specs.Frames.{FramesState, AreUsed, resident_at, is_in}
 use Rattle.playing.specs.Lanes.{new_job, stopped_at, home_with, sent, IsSentTo}
-use Rattle.playing.specs.Held.{held_one, held_in, held_by}
+use Rattle.playing.specs.Held.{held_in, held_by}
 use Rattle.playing.proofs.Letting.{uses_in-append, held-append}
 
 pub same_counts : (t : Table) (xs ys : List (List Piece)) → ((q : BlockPair) → uses_in t.block xs q ≡ uses_in t.block ys q) → Counts t xs → Counts t ys

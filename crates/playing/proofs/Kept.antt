@@ -1,9 +1,9 @@
 -- What frames keep is kept.
-use Rattle.std.proofs.Common.{◌≡◌, ◌≢◌, ℕ, zero, suc, ◌+◌, ◌*◌, ◌<◌, ◌≤◌, Bool, true, false, cond, ◌==◌, List, [], ◌∷◌, length, refl, sym, ◌∙◌, ap, subst, arith, Option, Some, None, get_or, set}
+use Rattle.std.proofs.Common.{◌≡◌, ◌≢◌, ℕ, suc, ◌*◌, ◌<◌, ◌≤◌, Bool, true, false, cond, ◌==◌, List, [], ◌∷◌, length, refl, sym, ◌∙◌, ap, subst, arith, Option, Some, None, set}
 use Rattle.std.proofs.Math.ListN.{length-set}
 use Rattle.std.proofs.lemmas.Bool.{eqb-true, eq-eqb, ne_eqb}
 use Rattle.std.proofs.lemmas.List.{get_or-set_same, get_or-set_other}
-use Rattle.std.specs.Prelude.{◌||◌, ◌&&◌, Result, IsErr, IsTrue}
+use Rattle.std.specs.Prelude.{◌||◌, ◌&&◌, Result, IsErr}
 use Rattle.std.specs.List.{list_any}
 use Rattle.voice_units.specs.declared.pieces.Piece.{Piece}
 use Rattle.voice_units.specs.declared.shapes.Shape.{Shape}
@@ -14,14 +14,13 @@ use Rattle.voice_blocks.specs.Holders as holders
 use Rattle.voice_blocks.specs.declared.owner.Owner.TheVariants.{File}
 use Rattle.voice_blocks.specs.Place.{block_place}
 use Rattle.frame_pool.specs.declared.views.Part.{Part}
-use Rattle.frame_pool.specs.declared.views.Sizes.{Sizes}
 use Rattle.frame_pool.specs.declared.views.LaneState.{LaneState}
 use Rattle.frame_pool.specs.declared.views.Stage.{Stage}
 use Rattle.frame_pool.specs.declared.views.Stage.TheVariants.{Free, Reserved, Handed, Ended}
 use Rattle.frame_pool.specs.Steps.{lane_at, parts_of, ended}
 use Rattle.frame_pool.specs.Pool.{KeeperState, Identity, IsSized, ChangesLane, lanes_of, block_of, stage_of, frame_of}
 use Rattle.playing.specs.declared.blocks.Block.{Block}
-use Rattle.playing.specs.Frames.{FramesState, IsFrames, IsLoaded, HoldsBytes, AreOnDisk, resident_at, read_by, is_read, is_wanted, is_in, is_resident, holds}
+use Rattle.playing.specs.Frames.{FramesState, IsFrames, HoldsBytes, AreOnDisk, resident_at, read_by, is_read, is_wanted, is_in, is_resident, holds}
 use Rattle.playing.proofs.Pigeons.{some_spare, same_name, not_true}
 
 -- a frame that is now known to hold a block held it before, or is the one that got it

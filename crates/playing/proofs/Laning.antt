@@ -1,10 +1,9 @@
 -- What lanes keep is kept as one lane changes.
-use Rattle.std.proofs.Common.{◌≡◌, ◌≢◌, ℕ, zero, suc, ◌+◌, ◌-◌, ◌<◌, ◌≤◌, ◌⊎◌, inl, inr, Bool, true, false, cond, ◌==◌, List, [], ◌∷◌, ◌++◌, length, map, get_or, set, drop, replicate, refl, sym, ◌∙◌, ap, ap₂, subst, arith, Option, Some, None}
+use Rattle.std.proofs.Common.{◌≡◌, ◌≢◌, ℕ, zero, suc, ◌<◌, ◌⊎◌, inl, inr, Bool, true, false, ◌==◌, List, [], ◌∷◌, ◌++◌, length, map, get_or, set, replicate, refl, sym, ◌∙◌, ap, subst, arith}
 use Rattle.std.proofs.lemmas.Bool.{eqb-true, eq-eqb}
 use Rattle.std.proofs.Common.{Result, Ok, Err, OnOk}
 use Rattle.std.specs.Prelude.{IsOk, if◌then◌else◌}
 use Rattle.std.proofs.lemmas.List.{length-set, length-replicate, get_or-set_same, get_or-set_other}
-use Rattle.voice_units.specs.declared.pieces.Piece.{Piece}
 use Rattle.frame_pool.specs.declared.views.Part.{Part}
 use Rattle.frame_pool.specs.declared.views.LaneState.{LaneState}
 use Rattle.frame_pool.specs.declared.views.Stage.{Stage}
@@ -15,10 +14,10 @@ use Rattle.frame_pool.specs.Steps.{lane_at, ended}
 use Rattle.frame_pool.specs.Pool.{Identity, lanes_of, stage_of, hint_of, mark_of, word_of}
 use Rattle.rope_table.specs.Table.{Every}
 use Rattle.play_queue.specs.declared.jobs.Job.{Job}
-use Rattle.play_queue.specs.Queued.{lane_of, heard_more, with_window, stopped_job, first_job}
+use Rattle.play_queue.specs.Queued.{lane_of, heard_more, stopped_job, first_job}
 use Rattle.playing.specs.Frames.{FramesState, ChangesLaneAlone}
 use Rattle.playing.specs.Windows.{IsOut}
-use Rattle.playing.specs.Lanes.{LanesState, AreLanes, LaneStands, HasBegun, IsWaiting, new_job, window_at, stopped_at, taken_at, home_with, sent}
+use Rattle.playing.specs.Lanes.{AreLanes, LaneStands, HasBegun, IsWaiting, window_at, stopped_at, taken_at, home_with}
 
 -- all but one lane stay
 pub record OneLane (q q' : List (List Job)) (s s' : FramesState) (taken taken' : List Bool) (lane : ℕ) : Type 0 where

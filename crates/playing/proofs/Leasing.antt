@@ -1,15 +1,14 @@
 -- What is granted are the samples of a window.
-use Rattle.std.proofs.Common.{◌≡◌, ℕ, ◌+◌, ◌*◌, ◌<◌, ◌≤◌, ◌⊎◌, inl, inr, true, false, List, [], ◌∷◌, length, map, refl, sym, ◌∙◌, ap, ap₂, subst, arith, Option, Some, None}
+use Rattle.std.proofs.Common.{◌≡◌, ℕ, ◌<◌, ◌≤◌, inl, List, length, refl, sym, ◌∙◌, ap, ap₂, subst, arith, Option}
 use Rattle.voice_units.specs.declared.pieces.Piece.{Piece}
-use Rattle.voice_units.specs.Spots.{spots_of, samples_in}
+use Rattle.voice_units.specs.Spots.{samples_in}
 use Rattle.frame_pool.specs.declared.views.Part.{Part}
 use Rattle.frame_pool.specs.declared.views.Stage.{Stage}
-use Rattle.frame_pool.specs.declared.views.Stage.TheVariants.{Free, Handed, Ended}
-use Rattle.frame_pool.specs.Words.{total}
-use Rattle.frame_pool.specs.Pool.{KeeperState, LeaseState, AreParts, lanes_of, block_of, stage_of, granted}
+use Rattle.frame_pool.specs.declared.views.Stage.TheVariants.{Handed}
+use Rattle.frame_pool.specs.Pool.{LeaseState, AreParts, block_of, granted}
 use Rattle.playing.specs.declared.blocks.Block.{Block}
-use Rattle.playing.specs.Frames.{FramesState, IsFrames, HoldsBytes, resident_at}
-use Rattle.playing.specs.Windows.{byte_in, AreStretches, ArePartsOf, IsLeaseOf, IsOut}
+use Rattle.playing.specs.Frames.{FramesState, IsFrames}
+use Rattle.playing.specs.Windows.{AreStretches, ArePartsOf, IsLeaseOf, IsOut}
 use Rattle.playing.proofs.Samples.{parts_lie, parts_total, window_samples}
 
 pub can_grant : (s : FramesState) (inside : FramesState) (readers : List (List Part)) (room block : ℕ) (window : List Piece) (ps qs : List Part) → inside ≡ s → IsFrames inside.keeper inside.resident readers room → block ≡ block_of s.keeper → AreStretches block window → ArePartsOf block s.resident window ps → qs ≡ ps → AreParts inside.keeper.pool.sizes qs

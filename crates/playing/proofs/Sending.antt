@@ -1,27 +1,23 @@
 -- A window is handed out.
-use Rattle.std.proofs.Common.{◌≡◌, ◌≢◌, ℕ, zero, suc, ◌+◌, ◌-◌, ◌<◌, ◌≤◌, ◌⊎◌, inl, inr, Bool, true, false, List, [], ◌∷◌, ◌++◌, length, map, get_or, set, drop, take, refl, sym, ◌∙◌, ap, ap₂, subst, arith, Option, Some, None}
-use Rattle.std.specs.Prelude.{IsTrue, Result, Ok, Err, OnOk}
+use Rattle.std.proofs.Common.{◌≡◌, ◌≢◌, ℕ, zero, suc, ◌+◌, ◌<◌, ◌≤◌, ◌⊎◌, inl, inr, Bool, true, false, List, [], ◌∷◌, length, map, get_or, set, drop, take, refl, sym, ◌∙◌, ap, ap₂, subst, arith, Some}
+use Rattle.std.specs.Prelude.{Result, Ok, Err, OnOk}
 use Rattle.std.specs.Result.{is_err}
 use Rattle.std.specs.List.{list_any}
 use Rattle.std.proofs.lemmas.List.{length-set, length-take, get_or-set_other}
 use Rattle.voice_units.specs.declared.pieces.Piece.{Piece}
-use Rattle.voice_units.specs.declared.shapes.Shape.{Shape}
-use Rattle.voice_units.specs.Spots.{Spot, spots_of, samples_in, stretches, window}
-use Rattle.voice_units.proofs.Counts.{window_within}
-use Rattle.rope_algebra.proofs.Parts.{length-spots_of}
+use Rattle.voice_units.specs.Spots.{spots_of, samples_in, stretches}
 use Rattle.rope_algebra.proofs.Stretched.{no_window, window_fits}
 use Rattle.frame_pool.specs.declared.views.LaneState.{LaneState}
-use Rattle.frame_pool.specs.declared.views.Stage.TheVariants.{Free}
 use Rattle.frame_pool.specs.Steps.{lane_at}
-use Rattle.frame_pool.specs.Pool.{Identity, LeaseState, lanes_of, block_of, stage_of, hint_of, mark_of, word_of}
+use Rattle.frame_pool.specs.Pool.{Identity, LeaseState, block_of, stage_of, hint_of, mark_of, word_of}
 use Rattle.play_queue.specs.declared.jobs.Job.{Job}
-use Rattle.play_queue.specs.Queued.{lane_of, heard_more, with_window, first_job}
+use Rattle.play_queue.specs.Queued.{lane_of, with_window, first_job}
 use Rattle.playing.specs.declared.blocks.Block.{Block}
-use Rattle.playing.specs.Frames.{FramesState, ChangesLaneAlone, IsBroughtIn, HoldsBytes, resident_at, is_in, AreReady}
+use Rattle.playing.specs.Frames.{FramesState, ChangesLaneAlone, IsBroughtIn, HoldsBytes, resident_at, is_in}
 use Rattle.playing.specs.Windows.{AreStretches, IsOut, IsLeaseOf, byte_in}
-use Rattle.playing.specs.Lanes.{LanesState, AreLanes, LaneStands, HasBegun, window_at, stopped_at, taken_at, home_with, sent, next_window, next_start, passage_length, IsSentTo, IsSent}
+use Rattle.playing.specs.Lanes.{LanesState, AreLanes, LaneStands, HasBegun, window_at, stopped_at, taken_at, home_with, sent, next_window, next_start, passage_length, IsSentTo}
 use Rattle.playing.proofs.Samples.{stretches_are, take_stretches}
-use Rattle.playing.proofs.Laning.{OneLane, lanes_one, jobs_are, marked_one, marked_at, heard_is, a_job}
+use Rattle.playing.proofs.Laning.{lanes_one, jobs_are, marked_one, marked_at, a_job}
 
 -- ---- the window
 

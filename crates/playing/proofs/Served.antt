@@ -1,11 +1,11 @@
 -- The definitions' Play, Stop and Feed, on the jobs of the program.
-use Rattle.std.proofs.Common.{◌≡◌, ℕ, zero, suc, ◌+◌, ◌<◌, ◌≤◌, Bool, true, false, ◌&&◌, ◌||◌, cond, ◌==◌, not, List, [], ◌∷◌, ◌++◌, length, map, get_or, set, drop, take, refl, sym, ◌∙◌, ap, ap₂, subst, arith, Option, Some, None}
+use Rattle.std.proofs.Common.{◌≡◌, ℕ, zero, suc, ◌+◌, ◌<◌, true, false, ◌&&◌, ◌||◌, cond, ◌==◌, not, List, [], ◌∷◌, ◌++◌, length, map, get_or, set, drop, refl, sym, ◌∙◌, ap, ap₂, arith, Option, Some, None}
 use Rattle.std.specs.Prelude.{count_by, nat_lt}
 use Rattle.std.proofs.lemmas.Bool.{eq-eqb, ne_eqb}
 use Rattle.std.proofs.lemmas.List.Folds.{fold-map}
 use Rattle.std.proofs.lemmas.List.{map-append, length-map, get_or-set_same}
 use Rattle.voice_units.specs.declared.pieces.Piece.{Piece}
-use Rattle.voice_units.specs.Spots.{Spot, spots_of, samples_in, slice, stretches, window}
+use Rattle.voice_units.specs.Spots.{Spot, spots_of, samples_in, slice, window}
 use Rattle.rope_algebra.proofs.Parts.{length-spots_of}
 use Rattle.voice_model.specs.Samples.{Tagged, spot_of, spots_in_rope}
 use Rattle.voice_model.specs.State.{State, LaneState, lane_at, with_lane, samples_of, quiet_lane}
@@ -18,7 +18,7 @@ use Rattle.voice_model.specs.declared.calls.Reply.TheVariants as replies
 use Rattle.play_queue.specs.declared.jobs.Job.{Job}
 use Rattle.play_queue.specs.Queued.{stopped_job}
 use Rattle.playing.specs.Lanes.{new_job, window_at, stopped_at, home_with, sent, next_window, next_start, passage_length}
-use Rattle.playing.specs.Shown.{shown_job, ShowsLane, more_of, state_with, FeedIs, IsFed, FeedsAreServed, PlaysAndStops, number_at}
+use Rattle.playing.specs.Shown.{shown_job, ShowsLane, more_of, state_with, FeedIs, IsFed, number_at}
 
 -- ---- Play and Stop
 
@@ -96,9 +96,6 @@ fed fill s tapes lane back js js' reply h is says = record {
 }
 
 -- ---- what is served
-
-abbrev leaves_if : Bool → List model.Job → List model.Job → List model.Job
-leaves_if t xs ys = cond t xs ys
 
 pub fed_stopped : (fill : Spot → Tagged) (s : State) (tapes : List (List ℕ)) (lane : ℕ) (back : Option ℕ) (js : List Job) → IsFed fill s lane back js → stopped_at js ≡ true → FeedIs fill s tapes lane back (drop 1 js) (replies.Stopped (number_at js) (next_start (more_of back) js))
 fed_stopped fill s tapes lane back [] h stop = absurd (omega (arith, h.some))

@@ -1,11 +1,10 @@
 -- The first four stretches of a passage's rest, piece by piece.
-use Rattle.std.proofs.Common.{◌≡◌, ℕ, zero, suc, ◌+◌, ◌-◌, ◌%◌, ◌<◌, ◌≤◌, ◌^◌, ◌⊎◌, inl, inr, Bool, true, false, ◌&&◌, not, cond, ◌==◌, min, List, [], ◌∷◌, ◌++◌, length, drop, take, get_or, refl, sym, ◌∙◌, ap, ap₂, subst, arith, append_assoc, Option, Some, None}
+use Rattle.std.proofs.Common.{◌≡◌, ℕ, zero, suc, ◌+◌, ◌-◌, ◌%◌, ◌<◌, ◌≤◌, ◌⊎◌, inl, inr, Bool, true, false, ◌&&◌, not, ◌==◌, min, List, [], ◌∷◌, ◌++◌, length, drop, take, refl, sym, ◌∙◌, ap, ap₂, subst, arith, append_assoc, Some}
 use Rattle.std.proofs.lemmas.Bool.{eqb-true}
-use Rattle.std.proofs.lemmas.List.{take_all, drop_all, length-drop, length-append, append-nil, drop_more}
-use Rattle.std.proofs.Math.Nat.{mod-lt}
+use Rattle.std.proofs.lemmas.List.{length-append, append-nil}
 use Rattle.std.specs.Prelude.{slice_get}
 use Rattle.voice_units.specs.declared.pieces.Piece.{Piece}
-use Rattle.voice_units.specs.Spots.{Spot, spots_from, spots_in, spots_of, samples_in, in_front, runs, lone, longer, IsContinued, IsNormal, comes_before, begins_block, stretches}
+use Rattle.voice_units.specs.Spots.{Spot, spots_from, spots_in, spots_of, runs, IsContinued, IsNormal, begins_block, stretches}
 use Rattle.voice_units.proofs.PiecesOfRopes.{length-spots_from}
 use Rattle.rope_algebra.specs.Kept.{LieInFiles}
 use Rattle.rope_algebra.proofs.Parts.{take-append, drop-append, take-nil, drop-nil}

@@ -5,7 +5,7 @@
 --     is_block block s b, is_wanted block window b      whether a stretch lies in a block;  whether a stretch of a window lies in the block that a frame holds
 --     is_resident resident b      whether a frame holds a block
 --     IsFrames      what frames keep
-use Rattle.std.specs.Prelude.{◌≡◌, ℕ, ◌+◌, ◌*◌, ◌/◌, ◌%◌, ◌≤◌, ◌<◌, Bool, true, false, ◌&&◌, ◌||◌, ◌==◌, List, [], ◌∷◌, length, slice_index_or, slice_set, Option, Some, None, ◌≢◌, ◌⊎◌, cond, slice_get, IsTrue, map, nat_lt}
+use Rattle.std.specs.Prelude.{◌≡◌, ℕ, ◌+◌, ◌*◌, ◌/◌, ◌≤◌, ◌<◌, Bool, true, false, ◌&&◌, ◌||◌, ◌==◌, List, [], ◌∷◌, length, slice_index_or, slice_set, Option, Some, None, ◌≢◌, ◌⊎◌, cond, slice_get, IsTrue, map, nat_lt}
 use Rattle.std.specs.List.{list_any}
 use Rattle.voice_units.specs.declared.pieces.Piece.{Piece}
 use Rattle.frame_pool.specs.declared.views.Part.{Part}

@@ -1,6 +1,7 @@
 -- Passages that are held, and let go.
 --     held_in jobs, held_by queues      the passages of jobs that are not stopped, of a lane and of all lanes
 --     passages_have block passages pair      whether one of the passages has a block
+--     stretch_count block passages      how many stretches they have
 --     HeldPassages      how the lanes' jobs tell of them
 --     LetsGo old new held left passages      what stays and what goes as these passages are let go
 use Rattle.std.specs.Prelude.{◌≡◌, ℕ, ◌+◌, ◌/◌, ◌<◌, Bool, true, false, ◌||◌, cond, List, [], ◌∷◌, ◌++◌, length, map, drop, slice_set}

@@ -5,14 +5,14 @@
 --     LaneStands w stopped d taken      what is known of a lane of whose first job w samples are out
 --     AreLanes      what lanes keep
 --     HasWindow s lane lease      the lease is that of the window that is out on a lane
-use Rattle.std.specs.Prelude.{◌≡◌, ◌⊎◌, ℕ, ◌+◌, ◌≤◌, ◌<◌, Bool, true, false, List, [], ◌∷◌, length, slice_index_or, slice_set, take, drop, map, Some, ◌≢◌}
+use Rattle.std.specs.Prelude.{◌≡◌, ◌⊎◌, ℕ, ◌+◌, ◌<◌, Bool, true, false, List, [], ◌∷◌, length, slice_index_or, take, drop, Some, ◌≢◌}
 use Rattle.voice_units.specs.declared.pieces.Piece.{Piece}
 use Rattle.std.specs.List.{list_any}
-use Rattle.voice_units.specs.Spots.{Spot, spots_of, samples_in, slice, stretches, window}
+use Rattle.voice_units.specs.Spots.{spots_of, samples_in, stretches}
 use Rattle.frame_pool.specs.declared.views.LaneState.{LaneState}
 use Rattle.frame_pool.specs.declared.views.Stage.TheVariants.{Free}
 use Rattle.frame_pool.specs.Steps.{lane_at}
-use Rattle.frame_pool.specs.Pool.{LeaseState, lanes_of, stage_of, mark_of, hint_of, word_of}
+use Rattle.frame_pool.specs.Pool.{LeaseState, lanes_of, stage_of, hint_of, word_of}
 use Rattle.rope_table.specs.Table.{Every}
 use Rattle.play_queue.specs.declared.jobs.Job.{Job}
 use Rattle.play_queue.specs.Queued.{lane_of, heard_more, with_window}

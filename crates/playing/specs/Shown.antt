@@ -3,10 +3,10 @@
 --     ShowsLane fill jobs lane      the jobs of a lane are these
 --     more_of back      how much more of the first job was heard, as a window is brought back
 --     FeedIs fill s tapes lane back jobs reply      a Feed that nothing refuses replies so, and leaves these jobs on the lane
---     FeedsAreServed, FeedsReach, PlaysAndStops      the laws
-use Rattle.std.specs.Prelude.{◌≡◌, ℕ, ◌+◌, ◌≤◌, ◌<◌, Bool, true, false, List, [], ◌∷◌, ◌++◌, map, drop, length, Option, Some, None, count_by, not, ◌&&◌, nat_lt}
+--     FeedsAreServed, FeedsReach, WindowsComeNext, PlaysAndStops      the laws
+use Rattle.std.specs.Prelude.{◌≡◌, ℕ, ◌+◌, ◌<◌, true, false, List, [], ◌∷◌, ◌++◌, map, drop, length, Option, Some, None, count_by, not, ◌&&◌, nat_lt}
 use Rattle.voice_units.specs.declared.pieces.Piece.{Piece}
-use Rattle.voice_units.specs.Spots.{Spot, spots_of, samples_in, slice}
+use Rattle.voice_units.specs.Spots.{Spot, spots_of, samples_in, slice, window}
 use Rattle.voice_model.specs.Samples.{Tagged, spot_of}
 use Rattle.voice_model.specs.State.{State, LaneState, lane_at, with_lane, samples_of}
 use Rattle.voice_model.specs.State as model
@@ -68,6 +68,10 @@ pub record FeedsReach : Type 0 where
       → reaches_device s tapes (calls.Feed lane back) ≡ (not (stopped_at jobs) && nat_lt (next_start (more_of back) jobs) (passage_length jobs))
   pub faulted : (fill : Spot → Tagged) (s : State) (tapes : List (List ℕ)) (lane : ℕ) (back : Option ℕ) (jobs : List Job) → IsFed fill s lane back jobs
       → state_by Outcome.Faulted s tapes (calls.Feed lane back) ≡ state_with fill s lane (home_with (more_of back) jobs)
+
+-- the places of a window are those of the passage that come next, as many as the definitions give
+pub record WindowsComeNext : Type 0 where
+  pub places : (block more : ℕ) (job : Job) (jobs : List Job) → spots_of (next_window block more (job ∷ jobs)) ≡ slice (spots_of job.passage) (job.heard + more) (window block (spots_of job.passage) (job.heard + more))
 
 -- a Play that nothing refuses, and a Stop
 pub record PlaysAndStops : Type 0 where

@@ -2,12 +2,12 @@
 --     byte_in bytes block s      the byte at a place, by the bytes of its block
 --     IsStretch block s      a stretch: it has samples, in one block
 --     IsPartOf block resident s p      a part of a frame that has the samples of a stretch
-use Rattle.std.specs.Prelude.{◌≡◌, ◌⊎◌, ℕ, ◌+◌, ◌/◌, ◌%◌, ◌≤◌, ◌<◌, Bool, true, false, List, [], ◌∷◌, map, slice_index, Option, Some}
+use Rattle.std.specs.Prelude.{◌≡◌, ◌⊎◌, ℕ, ◌+◌, ◌/◌, ◌%◌, ◌≤◌, ◌<◌, true, false, List, [], ◌∷◌, map, slice_index, Option, Some}
 use Rattle.voice_units.specs.declared.pieces.Piece.{Piece}
 use Rattle.voice_units.specs.Spots.{Spot, spots_of, samples_in}
 use Rattle.frame_pool.specs.declared.views.Part.{Part}
 use Rattle.frame_pool.specs.declared.views.Stage.{Stage}
-use Rattle.frame_pool.specs.declared.views.Stage.TheVariants.{Free, Handed, Ended}
+use Rattle.frame_pool.specs.declared.views.Stage.TheVariants.{Handed, Ended}
 use Rattle.frame_pool.specs.Words.{total}
 use Rattle.frame_pool.specs.Pool.{LeaseState, block_of}
 use Rattle.playing.specs.declared.blocks.Block.{Block}

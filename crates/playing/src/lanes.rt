@@ -100,6 +100,7 @@ impl Lanes {
         ensures newly { result ≡ count_by (λ job. not job.stopped) (lane_of self.old.queues lane) }
         ensures queues { self.new.queues ≡ slice_set self.old.queues lane (map stopped_job (lane_of self.old.queues lane)) }
         ensures hinted { hint_of self.new.frames.keeper lane ≡ 1 }
+        ensures stage { stage_of self.new.frames.keeper lane ≡ stage_of self.old.frames.keeper lane }
         ensures frames { ChangesLaneAlone self.old.frames self.new.frames lane }
         ensures taken { self.new.taken ≡ self.old.taken }
     {

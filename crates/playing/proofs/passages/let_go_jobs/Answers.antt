@@ -1,4 +1,4 @@
-use Rattle.std.proofs.Common.{◌≡◌, ◌∙◌, ◌+◌, ◌++◌, sym, drop}
+use Rattle.std.proofs.Common.{◌∙◌, ◌+◌, ◌++◌, sym, drop}
 use Rattle.play_queue.specs.Queued.{lane_of}
 use Rattle.playing.specs.Held.{held_in}
 use Rattle.playing.proofs.Letting.{job_skipped, job_gone, job_held, steps_skipped, steps_gone}

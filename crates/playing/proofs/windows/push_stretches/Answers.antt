@@ -1,5 +1,5 @@
-use Rattle.std.proofs.Common.{◌≡◌, ◌+◌, refl, arith, ◌<◌, length}
-use Rattle.playing.proofs.Windowing.{pushing_none, pushing_more, pushed_all}
+use Rattle.std.proofs.Common.{◌+◌, refl, arith, ◌<◌, length}
+use Rattle.playing.proofs.Windowing.{pushing_none, pushing_more}
 use Rattle.playing.proofs.windows.push_stretches.Goals as goal
 
 pub loop-from-init : goal.loop-from-init

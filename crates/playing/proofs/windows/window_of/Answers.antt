@@ -1,6 +1,5 @@
-use Rattle.std.proofs.Common.{◌≡◌, ◌∙◌, ◌+◌, sym, drop, arith, Some}
-use Rattle.std.specs.Prelude.{slice_get}
-use Rattle.playing.proofs.Windowing.{IsWindowing, at_piece, windowing_more}
+use Rattle.std.proofs.Common.{◌∙◌, ◌+◌, sym, drop, arith}
+use Rattle.playing.proofs.Windowing.{at_piece, windowing_more}
 use Rattle.playing.proofs.windows.window_of.Goals as goal
 
 pub rest_of-part-requires : goal.rest_of-part-requires

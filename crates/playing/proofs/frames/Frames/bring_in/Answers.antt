@@ -1,7 +1,6 @@
-use Rattle.std.proofs.Common.{◌≡◌, ◌∙◌, sym, subst, refl}
-use Rattle.std.specs.Prelude.{IsTrue}
-use Rattle.playing.proofs.Bringing.{IsUnderway, brought_more, failed_more}
-use Rattle.playing.specs.Frames.{FramesState, HoldsBytes}
+use Rattle.std.proofs.Common.{sym, subst}
+use Rattle.playing.proofs.Bringing.{brought_more, failed_more}
+use Rattle.playing.specs.Frames.{HoldsBytes}
 use Rattle.playing.proofs.frames.Frames.bring_in.Goals as goal
 
 pub returns-in_err-ready-clause-made : goal.returns-in_err-ready-clause-made

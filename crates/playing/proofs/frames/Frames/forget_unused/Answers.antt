@@ -1,5 +1,4 @@
-use Rattle.std.proofs.Common.{◌≡◌, ◌∙◌, sym, ap, subst, Some}
-use Rattle.playing.specs.Frames.{FramesState, uses_of, resident_at}
+use Rattle.playing.specs.Frames.{uses_of}
 use Rattle.playing.proofs.Forgotten.{kept_at, frames_forgot, bytes_forgot}
 use Rattle.playing.proofs.frames.Frames.forget_unused.Goals as goal
 

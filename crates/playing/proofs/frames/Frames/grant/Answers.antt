@@ -1,4 +1,4 @@
-use Rattle.std.proofs.Common.{◌≡◌, ◌≢◌, ◌∙◌, ◌<◌, ◌≤◌, sym, ap, subst, arith, length, List, refl}
+use Rattle.std.proofs.Common.{◌≡◌, ◌∙◌, ◌<◌, sym, ap, subst, List, refl}
 use Rattle.frame_pool.specs.declared.views.Stage.TheVariants.{Handed, Reserved}
 use Rattle.frame_pool.specs.declared.views.Part.{Part}
 use Rattle.frame_pool.specs.Steps.{parts_of}

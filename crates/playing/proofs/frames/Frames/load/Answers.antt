@@ -1,4 +1,4 @@
-use Rattle.std.proofs.Common.{◌∙◌, sym, ap, subst, ◌≢◌, ℕ, Some, length, ◌<◌}
+use Rattle.std.proofs.Common.{◌∙◌, sym, subst, ◌≢◌, ℕ, Some, length, ◌<◌}
 use Rattle.playing.specs.Frames.{FramesState, resident_at}
 use Rattle.playing.proofs.Kept.{frames_loaded}
 use Rattle.playing.proofs.frames.Frames.load.Goals as goal

@@ -1,8 +1,6 @@
-use Rattle.std.proofs.Common.{◌≡◌, ◌≢◌, ◌∙◌, ◌<◌, sym, ap, subst, arith, length}
+use Rattle.std.proofs.Common.{◌≡◌, ◌∙◌, ◌<◌, sym, ap, subst, arith, length}
 use Rattle.std.specs.Prelude.{if◌then◌else◌, List, ◌≤◌}
 use Rattle.frame_pool.specs.declared.views.Part.{Part}
-use Rattle.frame_pool.specs.declared.views.Stage.{Stage}
-use Rattle.frame_pool.specs.declared.views.Stage.TheVariants.{Reserved}
 use Rattle.frame_pool.specs.Steps.{parts_of, ended}
 use Rattle.frame_pool.specs.Pool.{lanes_of, stage_of}
 use Rattle.playing.specs.Frames.{FramesState}

@@ -1,4 +1,4 @@
-use Rattle.std.proofs.Common.{◌≡◌, ◌∙◌, ◌+◌, ◌%◌, sym, ap, subst, refl, List, take, Some}
+use Rattle.std.proofs.Common.{◌∙◌, ◌+◌, ◌%◌, sym, ap, subst, refl, List, take}
 use Rattle.frame_pool.specs.declared.views.Part.{Part}
 use Rattle.playing.specs.Frames.{FramesState, resident_at}
 use Rattle.playing.specs.Windows.{ArePartsOf}

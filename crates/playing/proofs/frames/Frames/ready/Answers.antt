@@ -1,4 +1,4 @@
-use Rattle.std.proofs.Common.{◌≡◌, ◌∙◌, refl}
+use Rattle.std.proofs.Common.{refl}
 use Rattle.playing.proofs.Kept.{retold, one_missing, holds_loaded, absent_in}
 use Rattle.playing.proofs.frames.Frames.ready.Goals as goal
 

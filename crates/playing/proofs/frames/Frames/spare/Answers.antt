@@ -1,4 +1,4 @@
-use Rattle.std.proofs.Common.{◌≡◌, ◌≢◌, ◌∙◌, ◌||◌, ◌<◌, sym, ap, subst, ℕ, Some, length, true, List, Option}
+use Rattle.std.proofs.Common.{◌≡◌, ◌≢◌, ◌||◌, ◌<◌, sym, subst, ℕ, Some, length, true, List, Option}
 use Rattle.frame_pool.specs.declared.views.Part.{Part}
 use Rattle.frame_pool.specs.declared.views.Stage.TheVariants.{Free}
 use Rattle.frame_pool.specs.Pool.{lanes_of, stage_of}

@@ -1,8 +1,4 @@
-use Rattle.std.proofs.Common.{◌≡◌, ◌∙◌, ◌<◌, sym, subst, refl}
-use Rattle.frame_pool.specs.Pool.{lanes_of, stage_of, hint_of, mark_of}
-use Rattle.frame_pool.specs.declared.views.Stage.TheVariants.{Free}
-use Rattle.playing.specs.Frames.{ChangesLaneAlone}
-use Rattle.playing.specs.Windows.{IsOut}
+use Rattle.std.proofs.Common.{◌∙◌, sym}
 use Rattle.playing.proofs.Laning.{back_lanes}
 use Rattle.playing.proofs.lanes.Lanes.bring_back.Goals as goal
 

@@ -1,4 +1,4 @@
-use Rattle.std.proofs.Common.{◌≡◌, ◌∙◌, ◌<◌, length, sym, ap, subst, refl}
+use Rattle.std.proofs.Common.{◌≡◌, ◌∙◌, ◌<◌, length, sym, ap, subst}
 use Rattle.frame_pool.specs.Pool.{stage_of}
 use Rattle.frame_pool.specs.declared.views.Stage.TheVariants.{Free}
 use Rattle.play_queue.specs.Queued.{lane_of}

@@ -1,12 +1,11 @@
-use Rattle.std.proofs.Common.{◌≡◌, ◌∙◌, ◌+◌, ◌<◌, ◌≤◌, length, sym, ap, subst, refl, arith, List, false, ℕ}
-use Rattle.std.specs.Prelude.{slice_set}
+use Rattle.std.proofs.Common.{◌≡◌, ◌∙◌, ◌≤◌, length, sym, ap, subst, arith, List, ℕ}
 use Rattle.voice_units.specs.declared.pieces.Piece.{Piece}
 use Rattle.voice_units.specs.Spots.{samples_in}
 use Rattle.play_queue.specs.Queued.{lane_of}
-use Rattle.playing.specs.Frames.{FramesState, HoldsBytes, AreReady}
+use Rattle.playing.specs.Frames.{HoldsBytes, AreReady}
 use Rattle.frame_pool.specs.Pool.{stage_of}
 use Rattle.playing.specs.Windows.{AreStretches, IsOut}
-use Rattle.playing.specs.Lanes.{LanesState, home_with, next_window, next_start, passage_length, stopped_at, sent}
+use Rattle.playing.specs.Lanes.{LanesState, next_window}
 use Rattle.playing.proofs.Laning.{heard_is, same_frames}
 use Rattle.playing.proofs.Sending.{can_send, sent_is, send_lanes, fits_in, advanced_low, advanced_some, of_no_err, sent_to, sent_to_seen, leased_samples, sent_queues}
 use Rattle.playing.proofs.lanes.Lanes.send.Goals as goal

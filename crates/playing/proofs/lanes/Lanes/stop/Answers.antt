@@ -1,4 +1,4 @@
-use Rattle.std.proofs.Common.{◌<◌, length, sym, subst, refl}
+use Rattle.std.proofs.Common.{◌<◌, length, sym, subst}
 use Rattle.playing.specs.Lanes.{LanesState}
 use Rattle.playing.proofs.Laning.{stop_lanes}
 use Rattle.playing.proofs.lanes.Lanes.stop.Goals as goal
