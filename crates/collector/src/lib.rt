@@ -6,5 +6,5 @@ mod sweeping;
 #[cfg(test)]
 mod tests;
 
-pub use releasing::{Freed, release};
+pub use releasing::{Freed, drop_unused, release};
 pub use sweeping::first;

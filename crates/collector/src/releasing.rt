@@ -32,8 +32,8 @@ fn drop_if_unused(table: &RopeTable, blocks: &mut BlockMap, file: RopeId, index:
     blocks.drop_block(Owner::File(file), index);
 }
 
-// Drops the blocks of these pieces that nothing uses.
-fn drop_unused<L: Ledger>(
+/// Drops the blocks of these pieces that nothing uses.
+pub fn drop_unused<L: Ledger>(
     table: &RopeTable,
     blocks: &mut BlockMap,
     pieces: &Pieces,

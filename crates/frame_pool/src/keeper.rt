@@ -1,6 +1,7 @@
 // The keeper of a pool.
 ghost use Rattle.std.specs.Prelude.{◌≡◌, ℕ, ◌+◌, ◌*◌, ◌/◌, ◌%◌, ◌<◌, ◌≤◌, [], ◌∷◌, ◌++◌, IfOk, OnOk, OnErr, IsTrue, ◌↔◌, ◌⊎◌, ◌≢◌, length, if◌then◌else◌, true, false};
 ghost use Rattle.std.specs.Arc.{arc_value};
+ghost use Rattle.frame_pool.specs.Words.{total};
 ghost use Rattle.frame_pool.specs.Steps.{lane_at, ended, is_free, keeper_view};
 ghost use Rattle.frame_pool.specs.declared.views.Stage.TheVariants.{Free, Handed, Ended};
 ghost use Rattle.frame_pool.specs.Pool.{lanes_of, block_of, stage_of, hint_of, mark_of, looks_of, frame_of, ChangesLane, IsSpare, AreParts, word_of, granted, spent, KeeperIs};
@@ -114,6 +115,7 @@ impl Keeper {
         ensures hint { lease.old.taken ≡ false → (hint_of self.new lease.old.lane ≡ hint_of self.old lease.old.lane) × (mark_of self.new lease.old.lane ≡ mark_of self.old lease.old.lane) }
         ensures looks { lease.old.taken ≡ false → looks_of self.new lease.old.lane ≡ looks_of self.old lease.old.lane }
         ensures was_out { lease.old.taken ≡ false → (stage_of self.old lease.old.lane ≡ Handed lease.old.parts) ⊎ (stage_of self.old lease.old.lane ≡ Ended lease.old.len) }
+        ensures long { lease.old.taken ≡ false → total lease.old.parts ≡ lease.old.len }
         ensures was_marked { lease.old.taken ≡ false → lease.old.hinted ≡ true → mark_of self.old lease.old.lane ≡ true }
     {
         let sizes = self.pool.sizes();

@@ -1,0 +1,14 @@
+pub mod Pigeons
+pub mod Kept
+pub mod Samples
+pub mod Missing
+pub mod Bringing
+pub mod Leasing
+pub mod Forgotten
+pub mod Laning
+pub mod Windowing
+pub mod Sending
+pub mod Served
+pub mod Letting
+pub mod Holding
+pub mod Feeding

@@ -1,0 +1,6 @@
+pub mod Frames
+pub mod Windows
+pub mod Lanes
+pub mod Shown
+pub mod Fed
+pub mod Held
