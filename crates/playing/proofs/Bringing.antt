@@ -41,9 +41,6 @@ one_read m n k old mid new r h made reads few = record {
   reads = λ is. more_reads old mid new h.later (h.reads is) (reads (subst IsTrue (sym h.honest) is));
 }
 
-pub fewer_read : (m n : ℕ) (old new : Told) → HasRead m old new → m ≤ n → HasRead n old new
-fewer_read m n old new h le = record { size = h.size; honest = h.honest; later = h.later; calls = omega (arith, h.calls, le); faults = h.faults; reads = h.reads }
-
 -- ---- the frames
 
 pub same_frames : (block : ℕ) (window : List Piece) (s : FramesState) → IsBroughtIn block window s s

@@ -6,14 +6,14 @@ use Rattle.std.proofs.lemmas.List.{append-nil}
 use Rattle.voice_units.specs.declared.pieces.Piece.{Piece}
 use Rattle.voice_units.specs.Spots.{spots_of, stretches}
 use Rattle.voice_units.specs.Blocks.{BlockPair, pairs_at, has_pair}
-use Rattle.rope_table.specs.Table.{Table, Counts, uses_at, uses_in, uses_by, pieces_in, pair_of}
+use Rattle.rope_table.specs.Table.{Table, Counts, uses_at, uses_in, uses_by, pair_of}
 use Rattle.voice_blocks.specs.Holders.{Holders, EachBecomes, holder_at}
 use Rattle.voice_blocks.specs.Holders as holders
 use Rattle.voice_blocks.specs.declared.owner.Owner.{Owner}
 use Rattle.voice_blocks.specs.declared.owner.Owner.TheVariants.{File, Taking}
 use Rattle.voice_blocks.specs.declared.owner.Holder.{Holder}
 use Rattle.collector.specs.Freed.{freed}
-use Rattle.collector.proofs.Released.{same_freed, none_freed, same_becomes}
+use Rattle.collector.proofs.Released.{same_freed, same_becomes}
 use Rattle.play_queue.specs.declared.jobs.Job.{Job}
 use Rattle.playing.specs.Held.{held_one, held_in, passages_have, stretch_count, LetsGo}
 
@@ -76,9 +76,6 @@ unused_by block (x ∷ xs) q e = by (has_pair (pairs_at block (spots_of x)) q) (
         is_one : Bool → ℕ
         is_one t = cond t 1 0
 
-pub let_go_none : (t : Table) (h : Holders) → LetsGo t t h h []
-let_go_none t h = record { ropes = refl; block = refl; uses = λ q. omega arith; counts = λ rest c. c; holders = none_freed (λ q. false) (uses_at t) h (λ q. refl) }
-
 pub let_go_twice : (t_0 t_1 t_2 : Table) (h_0 h_1 h_2 : Holders) (xs ys : List (List Piece)) → LetsGo t_0 t_1 h_0 h_1 xs → LetsGo t_1 t_2 h_1 h_2 ys → LetsGo t_0 t_2 h_0 h_2 (xs ++ ys)
 let_go_twice t_0 t_1 t_2 h_0 h_1 h_2 xs ys f s =
     let same : (q : BlockPair) → uses_in t_1.block ys q ≡ uses_in t_0.block ys q = λ q. ap (λ n. uses_in n ys q) f.block in
@@ -96,13 +93,6 @@ let_go_twice t_0 t_1 t_2 h_0 h_1 h_2 xs ys f s =
             (λ q. ap (λ n. passages_have t_0.block xs q || passages_have n ys q) f.block ∙ sym (have-append t_0.block xs ys q));
       };
     }
-
--- a passage that is held is used once more than the live ropes use it
-pub held_more : (t : Table) (p : List Piece) (rest : List (List Piece)) (q : BlockPair) → Counts t (p ∷ rest) → has_pair (pairs_at t.block (spots_of p)) q ≡ true → uses_in t.block (pieces_in t.ropes) q + 1 ≤ uses_at t q
-held_more t p rest q c has = let n = c q in let one = ap (λ b. is_one b) has in omega (arith, n, one)
-  where
-    is_one : Bool → ℕ
-    is_one b = cond b 1 0
 
 -- ---- the jobs of a lane
 

@@ -1,13 +1,13 @@
 -- The first four stretches of a passage's rest, piece by piece.
-use Rattle.std.proofs.Common.{◌≡◌, ℕ, zero, suc, ◌+◌, ◌-◌, ◌%◌, ◌<◌, ◌≤◌, ◌⊎◌, inl, inr, Bool, true, false, ◌&&◌, not, ◌==◌, min, List, [], ◌∷◌, ◌++◌, length, drop, take, refl, sym, ◌∙◌, ap, ap₂, subst, arith, append_assoc, Some}
+use Rattle.std.proofs.Common.{◌≡◌, ℕ, zero, suc, ◌+◌, ◌-◌, ◌%◌, ◌<◌, ◌≤◌, Bool, true, false, ◌&&◌, not, ◌==◌, min, List, [], ◌∷◌, ◌++◌, length, drop, take, refl, sym, ◌∙◌, ap, ap₂, subst, arith, append_assoc, Some}
 use Rattle.std.proofs.lemmas.Bool.{eqb-true}
-use Rattle.std.proofs.lemmas.List.{length-append, append-nil}
+use Rattle.std.proofs.lemmas.List.{length-append}
 use Rattle.std.specs.Prelude.{slice_get}
 use Rattle.voice_units.specs.declared.pieces.Piece.{Piece}
 use Rattle.voice_units.specs.Spots.{Spot, spots_from, spots_in, spots_of, runs, IsContinued, IsNormal, begins_block, stretches}
 use Rattle.voice_units.proofs.PiecesOfRopes.{length-spots_from}
 use Rattle.rope_algebra.specs.Kept.{LieInFiles}
-use Rattle.rope_algebra.proofs.Parts.{take-append, drop-append, take-nil, drop-nil}
+use Rattle.rope_algebra.proofs.Parts.{take-append, drop-append}
 use Rattle.rope_algebra.proofs.Blocks.{IsApart, IsLastApart, runs-append, last_of_run, first_apart, first_stretch}
 
 same_run : (file f g m n : ℕ) → f ≡ g → m ≡ n → spots_from file f m ≡ spots_from file g n
@@ -61,12 +61,6 @@ pushing_more block part x old now now' at from len some room more place long is 
     piece_from : ℕ → ℕ → ℕ → Piece
     piece_from file len from = record { file = file; from = from; len = len }
 
-pub pushed_all : (block : ℕ) (part : Piece) (old now : List Piece) (at : ℕ) → (4 ≤ length now) ⊎ (part.len ≤ at) → IsPushing block part old now at → now ≡ old ++ take (4 - length old) (stretches block (spots_in part))
-pushed_all block part old now at (inl full) h =
-    sym (append-nil now) ∙ ap (λ l. now ++ l) (sym (ap (λ k. take k (stretches block (spots_from part.file (part.from + at) (part.len - at)))) (let e : 4 - length now ≡ 0 = omega arith in e))) ∙ h.same
-pushed_all block part old now at (inr over) h =
-    sym (append-nil now) ∙ ap (λ l. now ++ l) (sym (ap (λ k. take (4 - length now) (stretches block (spots_from part.file (part.from + at) k))) (let e : part.len - at ≡ 0 = omega arith in e) ∙ take-nil {A = Piece} (4 - length now))) ∙ h.same
-
 -- ---- pieces, of which none is continued by the next one
 
 test_fails : (a b c d : ℕ) (x u v : Bool) → ((a ≡ b) × (c ≡ d) → ⊥) → (a == b) ≡ u → (c == d) ≡ v → (u && v && x) ≡ false
@@ -108,9 +102,6 @@ pub record IsWindowing (block : ℕ) (ps rest : List Piece) (heard skip : ℕ) (
   pub few : length now ≤ 4
   pub same : now ++ take (4 - length now) (stretches block (drop skip (spots_of rest))) ≡ take 4 (stretches block (drop heard (spots_of ps)))
 
-pub windowing_none : (block : ℕ) (ps : List Piece) (heard : ℕ) (now : List Piece) → now ≡ [] → IsNormal ps → LieInFiles ps → IsWindowing block ps ps heard heard now
-windowing_none block ps heard now is normal ends = subst (IsWindowing block ps ps heard heard) (sym is) (record { normal = normal; ends = ends; few = omega arith; same = refl })
-
 rest_normal : (p : Piece) (rest : List Piece) → IsNormal (p ∷ rest) → IsNormal rest
 rest_normal p [] h = tt
 rest_normal p (q ∷ rest) h = h.2
@@ -142,9 +133,3 @@ windowing_more block ps rest p part heard skip skip' now now' h file from len le
           ∙ ap (λ l. now ++ l) (sym both)
           ∙ h.same;
     }
-
-pub windowing_all : (block : ℕ) (ps rest : List Piece) (heard skip : ℕ) (now : List Piece) → rest ≡ [] → IsWindowing block ps rest heard skip now → now ≡ take 4 (stretches block (drop heard (spots_of ps)))
-windowing_all block ps rest heard skip now none h =
-    sym (append-nil now)
-    ∙ ap (λ l. now ++ l) (sym (ap (λ l. take (4 - length now) (stretches block (drop skip (spots_of l)))) none ∙ ap (λ l. take (4 - length now) (stretches block l)) (drop-nil {A = Spot} skip) ∙ take-nil {A = Piece} (4 - length now)))
-    ∙ h.same

@@ -2,8 +2,8 @@
 --     FramesState      the pool's keeper, and which block each frame holds
 --     resident_at resident f      the block that a frame holds
 --     has_frame parts f, is_read readers f      whether a frame is in parts;  whether a lane reads it
---     is_block block s b, is_wanted block window b      whether a stretch lies in a block;  whether a stretch of a window lies in the block that a frame holds
---     is_resident resident b      whether a frame holds a block
+--     is_in block b s, is_wanted block window resident      whether a stretch lies in a block;  whether a stretch of a window lies in the block that a frame holds
+--     is_resident resident file index      whether a frame holds a block
 --     IsFrames      what frames keep
 use Rattle.std.specs.Prelude.{◌≡◌, ℕ, ◌+◌, ◌*◌, ◌/◌, ◌≤◌, ◌<◌, Bool, true, false, ◌&&◌, ◌||◌, ◌==◌, List, [], ◌∷◌, length, slice_index_or, slice_set, Option, Some, None, ◌≢◌, ◌⊎◌, cond, slice_get, IsTrue, map, nat_lt}
 use Rattle.std.specs.List.{list_any}
@@ -47,11 +47,12 @@ abbrev pub is_wanted : ℕ → List Piece → Option Block → Bool
 is_wanted block window None = false
 is_wanted block window (Some b) = list_any (is_in block b) window
 
--- whether a frame holds a block
+-- whether this is the block
 abbrev pub holds : ℕ → ℕ → Option Block → Bool
 holds file index None = false
 holds file index (Some b) = (b.file == file) && (b.index == index)
 
+-- whether one of the frames holds a block
 abbrev pub is_resident : List (Option Block) → ℕ → ℕ → Bool
 is_resident resident file index = list_any (holds file index) resident
 

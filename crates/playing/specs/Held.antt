@@ -21,6 +21,7 @@ use Rattle.playing.specs.Lanes as lanes
 abbrev pub held_one : Job → List (List Piece)
 held_one job = cond job.stopped [] (job.passage ∷ [])
 
+-- those of the jobs of a lane
 abbrev pub held_in : List Job → List (List Piece)
 held_in [] = []
 held_in (job ∷ jobs) = held_one job ++ held_in jobs

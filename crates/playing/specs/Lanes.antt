@@ -4,7 +4,9 @@
 --     window_at, stopped_at jobs      how much of the first job is out;  whether it is stopped
 --     LaneStands w stopped d taken      what is known of a lane of whose first job w samples are out
 --     AreLanes      what lanes keep
---     HasWindow s lane lease      the lease is that of the window that is out on a lane
+--     sent, home_with more jobs      the jobs once more of the first one was heard, as its next window is out, or none
+--     next_window, next_start, IsOver      where the next window lies and begins;  there is none
+--     IsSentTo, IsSent      what a window does to the frames;  its lease
 use Rattle.std.specs.Prelude.{◌≡◌, ◌⊎◌, ℕ, ◌+◌, ◌<◌, Bool, true, false, List, [], ◌∷◌, length, slice_index_or, take, drop, Some, ◌≢◌}
 use Rattle.voice_units.specs.declared.pieces.Piece.{Piece}
 use Rattle.std.specs.List.{list_any}
@@ -60,6 +62,7 @@ pub record LaneStands (w : ℕ) (stopped : Bool) (d : LaneState) (taken : Bool) 
   pub hint : 0 < w → d.hint ≡ word_of stopped
   pub mark : 0 < w → d.mark ≡ stopped
 
+-- whether the lease of a lane's window was taken back though the window is out
 abbrev pub taken_at : List Bool → ℕ → Bool
 taken_at taken l = slice_index_or taken l false
 
@@ -93,11 +96,12 @@ abbrev pub next_window : ℕ → ℕ → List Job → List Piece
 next_window block more [] = []
 next_window block more (job ∷ jobs) = take 4 (stretches block (drop (job.heard + more) (spots_of job.passage)))
 
--- where it begins, and how many samples the passage has
+-- where it begins
 abbrev pub next_start : ℕ → List Job → ℕ
 next_start more [] = 0
 next_start more (job ∷ jobs) = job.heard + more
 
+-- how many samples the passage of the first job has
 abbrev pub passage_length : List Job → ℕ
 passage_length [] = 0
 passage_length (job ∷ jobs) = samples_in job.passage

@@ -22,6 +22,7 @@ pub record IsStretch (block : ℕ) (s : Piece) : Type 0 where
   pub some : 0 < s.len
   pub inside : s.from % block + s.len ≤ block
 
+-- each is a stretch
 abbrev pub AreStretches : ℕ → List Piece → Type 0
 AreStretches block [] = Unit {0}
 AreStretches block (s ∷ ss) = IsStretch block s × AreStretches block ss
@@ -32,6 +33,7 @@ pub record IsPartOf (block : ℕ) (resident : List (Option Block)) (s : Piece) (
   pub from : p.from ≡ s.from % block
   pub len : p.len ≡ s.len
 
+-- the parts have the samples of the stretches, one for each
 abbrev pub ArePartsOf : ℕ → List (Option Block) → List Piece → List Part → Type 0
 ArePartsOf block resident [] [] = Unit {0}
 ArePartsOf block resident (s ∷ ss) (p ∷ ps) = IsPartOf block resident s p × ArePartsOf block resident ss ps

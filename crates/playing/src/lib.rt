@@ -6,6 +6,8 @@ mod frames;
 mod lanes;
 pub mod laws;
 mod passages;
+#[cfg(test)]
+mod tests;
 mod turns;
 mod windows;
 
