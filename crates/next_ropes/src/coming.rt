@@ -29,7 +29,7 @@ pub fn give_back(parts: &mut Parts, next: NextRope)
 }
 
 /// A copy of the tables with room for one more rope and so many blocks that nothing uses yet.
-fn copy_with_room(parts: &Parts, blocks: u32) -> Result<Parts, NoMemory>
+pub fn copy_with_room(parts: &Parts, blocks: u32) -> Result<Parts, NoMemory>
     ensures alike { IfOk result (λ copy. IsAlike parts.now copy) }
     ensures spare_ropes { IfOk result (λ copy. 1 ≤ copy.ropes.spare_ropes) }
     ensures spare_pairs { IfOk result (λ copy. blocks ≤ copy.ropes.spare_pairs) }

@@ -7,7 +7,7 @@ mod payloads;
 mod recordings;
 mod room;
 
-pub use coming::{give_back, parts_after, perform};
+pub use coming::{copy_with_room, give_back, parts_after, perform};
 pub use edits::ready_edit;
 pub use recordings::ready_recording;
 use rope_algebra::Pieces;
