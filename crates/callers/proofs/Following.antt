@@ -1,6 +1,6 @@
 -- A caller's entries that follow its lines.
 use Rattle.std.proofs.Common.{◌≡◌, ◌<◌, ◌≤◌, ◌+◌, ◌⊎◌, ℕ, inl, inr, List, [], ◌∷◌, ◌++◌, length, get_or, take, map, cond, true, false, refl, sym, ap, subst, ◌∙◌, arith, append_assoc, append-nil}
-use Rattle.std.specs.Prelude.{◌==◌, Result, Ok, Err, OnOk}
+use Rattle.std.specs.Prelude.{◌==◌, Result, Ok, Err, OnOk, OnErr}
 use Rattle.std.specs.Result.{is_err}
 use Rattle.std.proofs.lemmas.List.{take_more, take_all}
 use Rattle.std.proofs.lemmas.List.Elements.{filter-append}
@@ -95,18 +95,22 @@ pub follows_at : (tapes : List (List ℕ)) (lines : List Line) (i c : ℕ) (star
 follows_at tapes lines i c start now variables h = record { own = h.own; gained = h.gained; follows = followed tapes (lines_of_caller c (take i lines)) h.stand h.own h.reaches }
 
 at_stopped : (tapes : List (List ℕ)) (lines : List Line) (i : ℕ) (line : Line) (c : ℕ) (start old new : List Entry) (now : List Binding) → i < length lines → line ≡ get_or lines i line
-    → (h : IsAt tapes lines i c start old now) → (new ≡ old) ⊎ ((line.caller ≡ c) × LineRan tapes line h.stand old new) → (k : ℕ) × Followed tapes lines k c start new
-at_stopped tapes lines i line c start old new now within is h (inl same) = (i, follows_at tapes lines i c start new now (subst (λ l. IsAt tapes lines i c start l now) (sym same) h))
+    → (h : IsAt tapes lines i c start old now) → (new ≡ old) ⊎ ((line.caller ≡ c) × LineRan tapes line h.stand old new) → Followed tapes lines i c start new ⊎ Followed tapes lines (i + 1) c start new
+at_stopped tapes lines i line c start old new now within is h (inl same) = inl (follows_at tapes lines i c start new now (subst (λ l. IsAt tapes lines i c start l now) (sym same) h))
 at_stopped tapes lines i line c start old new now within is h (inr b) =
     let ran = b.1 in
     let after = variables_after line.bind ran.own h.stand in
-    (i + 1, follows_at tapes lines (i + 1) c start new after (at_more tapes lines i line c start old new now after within is h (inr (b.0, (ran, λ name. refl)))))
+    inr (follows_at tapes lines (i + 1) c start new after (at_more tapes lines i line c start old new now after within is h (inr (b.0, (ran, λ name. refl)))))
 
 -- the caller stopped at that line
 pub stops_at : (tapes : List (List ℕ)) (lines : List Line) (i : ℕ) (line : Line) (c by : ℕ) (start old new : List Entry) (now : List Binding) → by ≡ c → i < length lines → line ≡ get_or lines i line
-    → IsAt tapes lines i c start old now → ((stand : List Binding) → SameValues now stand → (new ≡ old) ⊎ ((line.caller ≡ by) × LineRan tapes line stand old new)) → (k : ℕ) × Followed tapes lines k c start new
+    → IsAt tapes lines i c start old now → ((stand : List Binding) → SameValues now stand → (new ≡ old) ⊎ ((line.caller ≡ by) × LineRan tapes line stand old new)) → Followed tapes lines i c start new ⊎ Followed tapes lines (i + 1) c start new
 stops_at tapes lines i line c by start old new now same within is h f =
     at_stopped tapes lines i line c start old new now within is h (subst (λ b. (new ≡ old) ⊎ ((line.caller ≡ b) × LineRan tapes line h.stand old new)) same (f h.stand h.same))
+
+pub stops_so_far : (tapes : List (List ℕ)) (lines : List Line) (i c : ℕ) (start new : List Entry) → Followed tapes lines i c start new ⊎ Followed tapes lines (i + 1) c start new → (k : ℕ) × Followed tapes lines k c start new
+stops_so_far tapes lines i c start new (inl h) = (i, h)
+stops_so_far tapes lines i c start new (inr h) = (i + 1, h)
 
 -- all lines are behind it
 pub whole_at : (tapes : List (List ℕ)) (lines : List Line) (i c : ℕ) (start now : List Entry) (variables : List Binding) → length lines ≤ i → IsAt tapes lines i c start now variables → Followed tapes lines (length lines) c start now
@@ -122,3 +126,7 @@ whole_at tapes lines i c start now variables past h =
 pub at_done : {T E : Type 0} (r : Result T E) (P : Type 0) → is_err r ≡ false → OnOk r P → P
 at_done (Ok x) P fine h = h
 at_done (Err e) P fine h = cc
+
+pub at_error : {T E : Type 0} (r : Result T E) (P : Type 0) → is_err r ≡ true → OnErr r P → P
+at_error (Ok x) P failed h = cc
+at_error (Err e) P failed h = h

@@ -1,6 +1,6 @@
 -- What one line of a caller adds to its entries.
 use Rattle.std.proofs.Common.{◌≡◌, ℕ, ◌⊎◌, inl, inr, List, [], ◌∷◌, Some, None, Option, refl, sym, ap, subst, ◌∙◌}
-use Rattle.std.specs.Prelude.{IsTrue, Result, Ok, Err, OnOk}
+use Rattle.std.specs.Prelude.{IsTrue, Result, Ok, Err, OnOk, OnErr}
 use Rattle.voice_units.specs.declared.errors.NoMemory.{NoMemory}
 use Rattle.voice_model.specs.declared.calls.Call.{Call}
 use Rattle.voice_model.specs.declared.calls.Entry.{Entry}
@@ -19,7 +19,8 @@ use Rattle.voice_server.specs.Served.{AddsEntry}
 use Rattle.callers.specs.Lines.{LineRan, LineBound, LinePassed}
 use Rattle.callers.proofs.Built.{serves_none}
 
-does_one : (asks : Option Call) (serves : Option ℕ) (e : Entry) → serves ≡ None → Some e.call ≡ asks → Does asks serves (e ∷ [])
+-- an entry of the call that is asked
+pub does_one : (asks : Option Call) (serves : Option ℕ) (e : Entry) → serves ≡ None → Some e.call ≡ asks → Does asks serves (e ∷ [])
 does_one asks serves e none same =
     let here : Does (Some e.call) None (e ∷ []) = (refl, refl) in
     subst (λ a. Does a serves (e ∷ [])) same (subst (λ s. Does (Some e.call) s (e ∷ [])) (sym none) here)
@@ -39,9 +40,14 @@ module _ {D : Type 0} where
   line_bound tapes line stand after call reply p q built same adds set =
       (line_ran tapes line stand call reply p q built same adds, subst (λ r. SameValues after (bound line.bind (bound_rope r) stand)) (sym adds.reply_is) set)
 
+-- where it was done
 pub then_bound : (r : Result (Unit {0}) NoMemory) (P Q : Type 0) → (P → Q) → OnOk r P → OnOk r Q
 then_bound (Ok x) P Q f h = f h
 then_bound (Err e) P Q f h = tt
+
+pub in_error : (r : Result (Unit {0}) NoMemory) (P : Type 0) → P → OnErr r P
+in_error (Ok x) P p = tt
+in_error (Err e) P p = p
 
 -- the same of a line that may be another caller's
 pub passed : (caller : ℕ) (tapes : List (List ℕ)) (line : Line) (stand was after : List Binding) (old new : List Entry) (r : Result (Unit {0}) NoMemory) → line.caller ≡ caller

@@ -1,6 +1,7 @@
 -- Passes lined up, and handed back.
-use Rattle.std.proofs.Common.{◌≡◌, ◌<◌, ◌≤◌, ◌+◌, ℕ, zero, suc, List, [], ◌∷◌, ◌++◌, length, get_or, take, drop, map, Bool, true, false, refl, sym, ap, subst, ◌∙◌, arith, length-append, append_assoc, append-nil}
-use Rattle.std.specs.Prelude.{◌&&◌, All, slice_index_or}
+use Rattle.std.proofs.Common.{◌≡◌, ◌<◌, ◌≤◌, ◌+◌, ℕ, zero, suc, List, [], ◌∷◌, ◌++◌, length, get_or, take, drop, map, Bool, true, false, true≢false, refl, sym, ap, subst, ◌∙◌, arith, length-append, append_assoc, append-nil}
+use Rattle.std.specs.Prelude.{◌&&◌, All, Some, slice_get, slice_index_or}
+use Rattle.std.proofs.lemmas.Option.{slice_get-get_or}
 use Rattle.std.proofs.lemmas.List.{take_all}
 use Rattle.script_lang.specs.declared.scripts.Line.{Line}
 use Rattle.turnstile.specs.declared.parts.Pass.{Pass}
@@ -9,7 +10,7 @@ use Rattle.voice_server.specs.declared.born.Born.{Born}
 use Rattle.voice_server.specs.declared.hall.Hall.{Hall}
 use Rattle.voice_server.specs.declared.standing.Standing.{Standing}
 use Rattle.callers.specs.declared.seats.Runner.{Runner}
-use Rattle.callers.specs.Seats.{pass_of, all_done, IsReady, HasRun, PassRan, EachRan}
+use Rattle.callers.specs.Seats.{pass_of, all_done, IsReady, HasRun, PassRan, EachRan, SomeStopped}
 
 map_snoc : {A B : Type 0} (f : A → B) (xs : List A) (x : A) → map f (xs ++ x ∷ []) ≡ map f xs ++ f x ∷ []
 map_snoc f [] x = refl
@@ -72,12 +73,29 @@ module _ {P : Type 0} where
           no_true : false ≡ true → ⊥
           no_true e = cc
 
+  -- one that was not done
+  pub not_done : (rs : List (Runner P)) → all_done rs ≡ false → (i : ℕ) × (i < length rs) × ((r : Runner P) → (get_or rs i r).done ≡ false)
+  not_done [] h = absurd (true≢false h)
+  not_done (x ∷ xs) h = by x.done refl (not_done xs)
+    where
+      by : (b : Bool) → x.done ≡ b → (all_done xs ≡ false → (i : ℕ) × (i < length xs) × ((r : Runner P) → (get_or xs i r).done ≡ false)) → (i : ℕ) × (i < length (x ∷ xs)) × ((r : Runner P) → (get_or (x ∷ xs) i r).done ≡ false)
+      by false is rest = (0, omega arith, λ r. is)
+      by true is rest =
+          let found = rest (ap (λ b. b && all_done xs) (sym is) ∙ h) in
+          let low = found.1 in
+          (suc found.0, omega arith, found.2)
+
 module _ {D : Type 0} where
   abbrev runner_of : Pass (Standing D) (Born D) → Runner (Pass (Standing D) (Born D))
   runner_of p = record { pass = p; done = true }
 
   same_at : (rs : List (Runner (Pass (Standing D) (Born D)))) (passes : List (Pass (Standing D) (Born D))) (i : ℕ) (r : Runner (Pass (Standing D) (Born D))) → map pass_of rs ≡ passes → i < length rs → (get_or rs i r).pass ≡ get_or passes i r.pass
   same_at rs passes i r is within = sym (at_pass rs i r within) ∙ ap (λ l. get_or l i r.pass) is
+
+  pass_at : (rs : List (Runner (Pass (Standing D) (Born D)))) (passes : List (Pass (Standing D) (Born D))) (i : ℕ) (r : Runner (Pass (Standing D) (Born D))) → map pass_of rs ≡ passes → i < length rs → slice_get passes i ≡ Some (get_or rs i r).pass
+  pass_at rs passes i r is within =
+      let there : i < length passes = omega (arith, length_pass rs, ap length is, within) in
+      slice_get-get_or passes i r.pass there ∙ ap Some (sym (same_at rs passes i r is within))
 
   pub ready_from : (s : Hall (Standing D) (Born D)) (shown rs : List (Runner (Pass (Standing D) (Born D)))) (passes : List (Pass (Standing D) (Born D))) → shown ≡ rs → map pass_of rs ≡ passes → AreOf s.turnstile passes → All (IsReady s) shown
   ready_from s shown rs passes same is of = subst (All (IsReady s)) (sym same) (λ k r within.
@@ -105,6 +123,26 @@ module _ {D : Type 0} where
         let all_ran : PassRan tapes lines memory (get_or rs i r).pass (get_or ts i r).pass = record { caller = ran.caller; whole = λ done. ran.whole (done_at ts i r there (sym all ∙ done)); so_far = ran.so_far } in
         subst (λ q. PassRan tapes lines memory (get_or passes i p) q) (same_at ts after i r (sym is) there) (subst (λ q. PassRan tapes lines memory q (get_or ts i r).pass) (same_at rs passes i r was here) all_ran);
   }
+
+  -- without memory one stopped
+  pub stopped_after : (tapes : List (List ℕ)) (lines : List Line) (memory : Bool) (s : Hall (Standing D) (Born D)) (rs ts : List (Runner (Pass (Standing D) (Born D)))) (passes after : List (Pass (Standing D) (Born D))) → map pass_of rs ≡ passes → after ≡ map pass_of ts → memory ≡ all_done ts
+      → length ts ≡ length rs → Ran tapes lines s rs ts → memory ≡ false → SomeStopped tapes lines passes after
+  stopped_after tapes lines memory s rs ts passes after was is all long h none = at rs refl
+    where
+      at : (some : List (Runner (Pass (Standing D) (Born D)))) → some ≡ rs → SomeStopped tapes lines passes after
+      at [] same = let found = not_done ts (sym all ∙ none) in let low = found.1 in let short = ap length same in absurd (omega (arith, long))
+      at (r ∷ some) same =
+          let found = not_done ts (sym all ∙ none) in
+          let i = found.0 in
+          let within : i < length ts = found.1 in
+          let here : i < length rs = omega (arith, long, within) in
+          record {
+            place = i;
+            before = (get_or rs i r).pass;
+            after = (get_or ts i r).pass;
+            there = (pass_at rs passes i r was here, pass_at ts after i r (sym is) within);
+            stopped = (h i r here).stopped (found.2 r);
+          }
 
   -- where none began
   pub none_ran : (tapes : List (List ℕ)) (lines : List Line) (passes : List (Pass (Standing D) (Born D))) → EachRan tapes lines false passes passes

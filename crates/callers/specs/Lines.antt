@@ -3,7 +3,8 @@
 --     LineRan, LineBound      what one line adds, and what it sets
 --     LinePassed      the same, or the line is another caller's
 --     Followed tapes lines k caller old new      the caller gained the entries of its lines among the first k
-use Rattle.std.specs.Prelude.{ℕ, List, [], ◌++◌, ◌≡◌, ◌⊎◌, ◌==◌, map, filter, take}
+--     Stopped tapes lines caller old new      the caller stopped at a line of its own
+use Rattle.std.specs.Prelude.{ℕ, ◌+◌, List, [], ◌++◌, ◌≡◌, ◌⊎◌, ◌==◌, Some, map, filter, take, slice_get}
 use Rattle.voice_model.specs.declared.calls.Entry.{Entry}
 use Rattle.voice_model.specs.Follows.{Binding, Does, Follows, variables_after}
 use Rattle.script_lang.specs.declared.scripts.Line.{Line}
@@ -42,3 +43,11 @@ pub record Followed (tapes : List (List ℕ)) (lines : List Line) (k caller : �
   pub own : List Entry
   pub gained : new ≡ old ++ own
   pub follows : Follows [] (map (errand_of tapes) (lines_of_caller caller (take k lines))) own
+
+-- the caller stopped at a line of its own: it gained the entries of its lines before that one, and perhaps that one's
+pub record Stopped (tapes : List (List ℕ)) (lines : List Line) (caller : ℕ) (old new : List Entry) : Type 0 where
+  pub number : ℕ
+  pub line : Line
+  pub there : slice_get lines number ≡ Some line
+  pub is_own : line.caller ≡ caller
+  pub ran : Followed tapes lines number caller old new ⊎ Followed tapes lines (number + 1) caller old new

@@ -2,7 +2,8 @@
 --     IsReady s r      the runner's pass is of this server and outside
 --     HasRun tapes lines s r t      the runner's caller did its lines, or the first of them
 --     EachRan tapes lines memory passes after      each pass's caller did
-use Rattle.std.specs.Prelude.{ℕ, ◌≡◌, ◌<◌, ◌&&◌, Bool, true, List, [], ◌∷◌, length, slice_index_or}
+--     SomeStopped tapes lines passes after      one stopped at a line of its own
+use Rattle.std.specs.Prelude.{ℕ, ◌≡◌, ◌<◌, ◌&&◌, Bool, true, false, List, [], ◌∷◌, Some, length, slice_get, slice_index_or}
 use Rattle.script_lang.specs.declared.scripts.Line.{Line}
 use Rattle.turnstile.specs.declared.parts.Pass.{Pass}
 use Rattle.turnstile.specs.Passes.{mine}
@@ -11,7 +12,7 @@ use Rattle.voice_server.specs.declared.hall.Hall.{Hall}
 use Rattle.voice_server.specs.declared.standing.Standing.{Standing}
 use Rattle.voice_server.specs.Served.{IsPassOf}
 use Rattle.callers.specs.declared.seats.Runner.{Runner}
-use Rattle.callers.specs.Lines.{Followed}
+use Rattle.callers.specs.Lines.{Followed, Stopped}
 
 module _ {P : Type 0} where
   abbrev pub pass_of : Runner P → P
@@ -37,8 +38,17 @@ module _ {D : Type 0} where
   pub record HasRun (tapes : List (List ℕ)) (lines : List Line) (s : Hall (Standing D) (Born D)) (r t : Runner (Pass (Standing D) (Born D))) : Type 0 where
     pub of : IsPassOf s t.pass
     pub ran : PassRan tapes lines t.done r.pass t.pass
+    pub stopped : t.done ≡ false → Stopped tapes lines r.pass.caller (mine r.pass) (mine t.pass)
 
   -- the lines of each pass's caller were run; all of them, where there was memory
   pub record EachRan (tapes : List (List ℕ)) (lines : List Line) (memory : Bool) (old new : List (Pass (Standing D) (Born D))) : Type 0 where
     pub count : length new ≡ length old
     pub each : (i : ℕ) (d : Pass (Standing D) (Born D)) → i < length old → PassRan tapes lines memory (slice_index_or old i d) (slice_index_or new i d)
+
+  -- one pass's caller stopped at a line of its own
+  pub record SomeStopped (tapes : List (List ℕ)) (lines : List Line) (old new : List (Pass (Standing D) (Born D))) : Type 0 where
+    pub place : ℕ
+    pub before : Pass (Standing D) (Born D)
+    pub after : Pass (Standing D) (Born D)
+    pub there : (slice_get old place ≡ Some before) × (slice_get new place ≡ Some after)
+    pub stopped : Stopped tapes lines before.caller (mine before) (mine after)

@@ -1,11 +1,11 @@
 //! All lines of a caller.
 
-ghost use Rattle.std.specs.Prelude.{ℕ, ◌≡◌, true, length};
+ghost use Rattle.std.specs.Prelude.{ℕ, ◌≡◌, true, false, length};
 ghost use Rattle.script_lang.specs.Verbs.{is_built_verb};
 ghost use Rattle.script_lang.specs.Whole.{IsWhole};
 ghost use Rattle.turnstile.specs.Passes.{mine};
 ghost use Rattle.voice_server.specs.Served.{tapes_of, IsPassOf};
-ghost use Rattle.callers.specs.Lines.{Followed};
+ghost use Rattle.callers.specs.Lines.{Followed, Stopped};
 
 use crate::lines::run_own_line;
 use script_lang::{Env, Script};
@@ -33,6 +33,7 @@ pub(crate) fn run_caller<R: Wait, D: Disk, G: Gate>(
     ensures pass { IsPassOf server.now pass.new }
     ensures caller { pass.new.caller ≡ pass.old.caller }
     ensures whole { result ≡ true → Followed tapes.now script.now.lines (length script.now.lines) pass.old.caller (mine pass.old) (mine pass.new) }
+    ensures stopped { result ≡ false → Stopped tapes.now script.now.lines pass.old.caller (mine pass.old) (mine pass.new) }
     ensures so_far { (k : ℕ) × Followed tapes.now script.now.lines k pass.old.caller (mine pass.old) (mine pass.new) }
 {
     let mut variables = Env::new(alloc);

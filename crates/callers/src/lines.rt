@@ -1,6 +1,6 @@
 //! One line of a caller.
 
-ghost use Rattle.std.specs.Prelude.{List, ◌≡◌, ◌⊎◌, IsTrue, OnOk, length};
+ghost use Rattle.std.specs.Prelude.{List, ◌≡◌, ◌⊎◌, IsTrue, OnOk, OnErr, length};
 ghost use Rattle.voice_model.specs.Follows.{Binding};
 ghost use Rattle.script_lang.specs.Verbs.{is_built_verb};
 ghost use Rattle.script_lang.specs.Grammar.{verb_name};
@@ -67,6 +67,7 @@ pub(crate) fn run_own_line<R: Wait, D: Disk, G: Gate>(
     ensures pass { IsPassOf server.now pass.new }
     ensures caller { pass.new.caller ≡ pass.old.caller }
     ensures ran { (stand : List Binding) → SameValues variables.old stand → (mine pass.new ≡ mine pass.old) ⊎ ((line.now.caller ≡ pass.old.caller) × LineRan tapes.now line.now stand (mine pass.old) (mine pass.new)) }
+    ensures err { OnErr result (line.now.caller ≡ pass.old.caller) }
     ensures ok { (stand : List Binding) → SameValues variables.old stand → OnOk result (LinePassed pass.old.caller tapes.now line.now stand variables.old variables.new (mine pass.old) (mine pass.new)) }
 {
     if line.caller != pass.caller() {

@@ -1,11 +1,11 @@
 //! Each caller on a thread of its own.
 
-ghost use Rattle.std.specs.Prelude.{ℕ, ◌≡◌, ◌<◌, length, All, slice_index_or};
+ghost use Rattle.std.specs.Prelude.{ℕ, ◌≡◌, ◌<◌, ◌⊎◌, false, length, All, slice_index_or};
 ghost use Rattle.script_lang.specs.Verbs.{is_built_verb};
 ghost use Rattle.script_lang.specs.Whole.{IsWhole};
 ghost use Rattle.turnstile.specs.Passes.{AreOf};
 ghost use Rattle.voice_server.specs.Served.{tapes_of};
-ghost use Rattle.callers.specs.Seats.{IsReady, HasRun, EachRan};
+ghost use Rattle.callers.specs.Seats.{IsReady, HasRun, EachRan, SomeStopped};
 
 use crate::caller::run_caller;
 use crate::seats::{Outcome, Runner, hand_back, line_up};
@@ -80,6 +80,8 @@ pub fn run_threads<R: Threads + Wait + Sync, D: Disk, G: Gate>(
     requires samples { length tapes.now ≡ length script.now.samples }
     ensures of { AreOf server.now.turnstile result.passes.items }
     ensures each { EachRan tapes.now script.now.lines result.memory passes.items result.passes.items }
+    // Where there was no memory, none began, or one stopped.
+    ensures memory { result.memory ≡ false → (result.passes.items ≡ passes.items) ⊎ SomeStopped tapes.now script.now.lines passes.items result.passes.items }
 {
     let Ok(mut runners) = Vec::with_capacity(alloc, passes.len()) else {
         return Outcome {

@@ -1,7 +1,8 @@
 use Rattle.std.proofs.Common.{◌≡◌, ◌<◌, ◌∙◌, length, get_or, ap, sym, refl, arith}
+use Rattle.std.proofs.lemmas.Option.{slice_get_read}
 use Rattle.script_lang.specs.Shown.{Reading}
 use Rattle.turnstile.specs.Passes.{mine}
-use Rattle.callers.proofs.Following.{at_start, moves_on, stops_at, follows_at, at_done, whole_at}
+use Rattle.callers.proofs.Following.{at_start, moves_on, stops_at, stops_so_far, follows_at, at_done, at_error, whole_at}
 use Rattle.callers.proofs.caller.run_caller.Goals as goal
 
 pub loop-line-init : goal.loop-line-init
@@ -16,8 +17,23 @@ returns-then-is_err-clause-so_far g c =
     let lines : c.deref-line-items.result.now ≡ c.args.script.now.lines = c.deref-line-items.ensures.value ∙ ap (λ (s : Reading). s.lines) c.script.view_is in
     let within : c.loop-line.line-index < length c.args.script.now.lines = omega (arith, c.loop-line-test.true, ap length lines) in
     let is : c.line-item.result ≡ get_or c.args.script.now.lines c.loop-line.line-index c.line-item.result = c.line-item.is ∙ ap (λ ls. get_or ls c.loop-line.line-index c.line-item.result) lines in
-    stops_at c.args.tapes.now c.args.script.now.lines c.loop-line.line-index c.line-item.result c.args.pass.now.caller c.loop-line.pass.caller (mine c.args.pass.now) (mine c.loop-line.pass) (mine c.run_own_line.new.pass) c.loop-line.variables
-    c.loop-line.invariant.caller within is c.loop-line.invariant.reaches c.run_own_line.ensures.ran
+    stops_so_far c.args.tapes.now c.args.script.now.lines c.loop-line.line-index c.args.pass.now.caller (mine c.args.pass.now) (mine c.run_own_line.new.pass)
+    (stops_at c.args.tapes.now c.args.script.now.lines c.loop-line.line-index c.line-item.result c.args.pass.now.caller c.loop-line.pass.caller (mine c.args.pass.now) (mine c.loop-line.pass) (mine c.run_own_line.new.pass) c.loop-line.variables
+    c.loop-line.invariant.caller within is c.loop-line.invariant.reaches c.run_own_line.ensures.ran)
+
+pub returns-then-is_err-clause-stopped : goal.returns-then-is_err-clause-stopped
+returns-then-is_err-clause-stopped g c = λ _.
+    let lines : c.deref-line-items.result.now ≡ c.args.script.now.lines = c.deref-line-items.ensures.value ∙ ap (λ (s : Reading). s.lines) c.script.view_is in
+    let within : c.loop-line.line-index < length c.args.script.now.lines = omega (arith, c.loop-line-test.true, ap length lines) in
+    let is : c.line-item.result ≡ get_or c.args.script.now.lines c.loop-line.line-index c.line-item.result = c.line-item.is ∙ ap (λ ls. get_or ls c.loop-line.line-index c.line-item.result) lines in
+    record {
+      number = c.loop-line.line-index;
+      line = c.line-item.result;
+      there = slice_get_read c.args.script.now.lines (length c.args.script.now.lines) c.loop-line.line-index c.line-item.result refl within is;
+      is_own = at_error c.run_own_line.result (c.line-item.result.caller ≡ c.loop-line.pass.caller) (sym c.is_err.ensures.value ∙ c.if-is_err.true) c.run_own_line.ensures.err ∙ c.loop-line.invariant.caller;
+      ran = stops_at c.args.tapes.now c.args.script.now.lines c.loop-line.line-index c.line-item.result c.args.pass.now.caller c.loop-line.pass.caller (mine c.args.pass.now) (mine c.loop-line.pass) (mine c.run_own_line.new.pass) c.loop-line.variables
+          c.loop-line.invariant.caller within is c.loop-line.invariant.reaches c.run_own_line.ensures.ran;
+    }
 
 pub loop-line-preserved : goal.loop-line-preserved
 loop-line-preserved g c =

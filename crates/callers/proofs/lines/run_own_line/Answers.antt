@@ -3,7 +3,7 @@ use denote.Exit.{no}
 use denote.Param.Send.{param_send, arg_send}
 use Rattle.turnstile.specs.Passes.{mine}
 use Rattle.voice_server.proofs.Moving.{standing_send}
-use Rattle.callers.proofs.Lined.{passed, ran_here}
+use Rattle.callers.proofs.Lined.{passed, ran_here, in_error}
 use Rattle.callers.proofs.lines.run_own_line.Goals as goal
 
 pub caller-requires-send-T : goal.caller-requires-send-T
@@ -12,6 +12,9 @@ caller-requires-send-T g c κs within = param_send 0 _ (arg_send _ no _ (standin
 pub returns-clause-ran : goal.returns-clause-ran
 returns-clause-ran g c = λ stand same.
     ran_here c.args.pass.now.caller c.args.tapes.now c.args.line.now stand (mine c.args.pass.now) (mine c.run_line.new.pass) (c.if-line-caller.false ∙ c.caller.ensures) (c.run_line.ensures.ran stand same)
+
+pub returns-clause-err : goal.returns-clause-err
+returns-clause-err g c = in_error c.run_line.result _ (c.if-line-caller.false ∙ c.caller.ensures)
 
 pub returns-clause-ok : goal.returns-clause-ok
 returns-clause-ok g c = λ stand same.

@@ -9,7 +9,7 @@ use Rattle.callers.proofs.seats.Runner.TheSendSync.{the_send as runner_send}
 use Rattle.callers.proofs.threads.run_all.Goals as goal
 
 pub for_each_mut-requires-send-T : goal.for_each_mut-requires-send-T
-for_each_mut-requires-send-T g c κs within = param_send 1 _ (arg_send _ no _ (runner_send _ (pass_moves _ g.D.Disk c.type_bounds.send-D)))
+for_each_mut-requires-send-T g c κs within = param_send 1 _ (arg_send _ no _ (runner_send _ (pass_moves _ g.D.Disk _ c.type_bounds.send-D)))
 
 pub for_each_mut-requires-sync-F : goal.for_each_mut-requires-sync-F
 for_each_mut-requires-sync-F g c κs within =
