@@ -3,13 +3,14 @@ use denote.Param.Send.{param_send, param_sync, arg_send, arg_sync, shr_sync}
 use Rattle.std.proofs.Crossing.{sync as global_sync}
 use Rattle.voice_model.proofs.tapes.Tapes.TheSendSync.{the_sync as tapes_sync}
 use Rattle.script_lang.proofs.scripts.Script.TheSendSync.{the_sync as script_sync}
+use Rattle.voice_server.specs.Kept.{IsKept, history_of, origin_of}
 use Rattle.voice_server.proofs.Moving.{pass_moves, hall_shared}
 use Rattle.callers.proofs.Sharing.{six_shared}
 use Rattle.callers.proofs.seats.Runner.TheSendSync.{the_send as runner_send}
 use Rattle.callers.proofs.threads.run_all.Goals as goal
 
 pub for_each_mut-requires-send-T : goal.for_each_mut-requires-send-T
-for_each_mut-requires-send-T g c κs within = param_send 1 _ (arg_send _ no _ (runner_send _ (pass_moves _ g.D.Disk _ c.type_bounds.send-D)))
+for_each_mut-requires-send-T g c κs within = param_send 1 _ (arg_send _ no _ (runner_send _ (pass_moves _ g.D.Disk (record { origin = origin_of; history = history_of; stands = λ s. IsKept g.D.Disk.told s.store }) c.type_bounds.send-D)))
 
 pub for_each_mut-requires-sync-F : goal.for_each_mut-requires-sync-F
 for_each_mut-requires-sync-F g c κs within =
