@@ -1,20 +1,21 @@
 -- What a call adds to the entries that callers asked for.
-use Rattle.std.proofs.Common.{◌≡◌, ℕ, inl, inr, List, [], ◌∷◌, ◌++◌, cond, not, false, Some, None, Option, refl, sym, ap, subst, ◌∙◌, append-nil}
-use Rattle.std.specs.Prelude.{IsTrue, Result, Ok, Err, OnOk}
-use Rattle.voice_units.specs.declared.errors.NoMemory.{NoMemory}
+use Rattle.std.proofs.Common.{◌≡◌, ℕ, inl, inr, List, [], ◌∷◌, ◌++◌, cond, not, false, Some, refl, sym, ap, ◌∙◌, append-nil}
+use Rattle.std.specs.Prelude.{IsTrue}
 use Rattle.std.proofs.lemmas.List.Elements.{filter-append}
 use Rattle.voice_model.specs.declared.calls.Call.{Call}
 use Rattle.voice_model.specs.declared.calls.Entry.{Entry}
 use Rattle.voice_model.specs.declared.calls.Reply.{Reply}
-use Rattle.voice_model.specs.Follows.{Binding, Does, bound, bound_rope}
-use Rattle.voice_store.specs.Facts.{Adds, AddsLanding, entry_of, landing_at}
+use Rattle.voice_model.specs.declared.calls.Call.TheVariants as calls
+use Rattle.voice_model.specs.Follows.{Binding, bound, bound_rope}
+use Rattle.voice_store.specs.Facts.{Adds, AddsLanding, entry_of, landing_at, is_built}
 use Rattle.script_lang.specs.declared.scripts.Line.{Line}
 use Rattle.script_lang.specs.Parts.{served}
 use Rattle.script_lang.specs.Verbs.{is_built_verb}
 use Rattle.script_lang.specs.Grammar.{verb_name}
 use Rattle.script_lang.specs.Errands.{asked, SameValues}
 use Rattle.voice_main.specs.Ordered.{asked_entries, was_asked, is_landing, LineRan, LineBound}
-use Rattle.voice_main.proofs.Built.{serves_none}
+use Rattle.callers.proofs.Built.{serves_none}
+use Rattle.callers.proofs.Lined.{does_one}
 
 -- a landing adds nothing to them
 pub landing_aside : (old new : List Entry) → AddsLanding old new → asked_entries new ≡ asked_entries old
@@ -32,10 +33,28 @@ one_added caller ack call reply old new h (inr is) =
     let e = entry_of caller call reply ack in
     ap asked_entries is.1 ∙ filter-append was_asked old (landing_at is.0 ∷ e ∷ []) ∙ ap (λ l. asked_entries old ++ l) (alone e h)
 
-does_one : (asks : Option Call) (serves : Option ℕ) (e : Entry) → serves ≡ None → Some e.call ≡ asks → Does asks serves (e ∷ [])
-does_one asks serves e none same =
-    let here : Does (Some e.call) None (e ∷ []) = (refl, refl) in
-    subst (λ a. Does a serves (e ∷ [])) same (subst (λ s. Does (Some e.call) s (e ∷ [])) (sym none) here)
+-- a call that the store can do is no landing
+pub no_landing : (call : Call) → IsTrue (is_built call) → is_landing call ≡ false
+no_landing (calls.Record take) h = refl
+no_landing (calls.Concat ids) h = refl
+no_landing (calls.Sub id start len) h = refl
+no_landing (calls.Replace id start len with) h = refl
+no_landing (calls.Length id) h = refl
+no_landing (calls.Describe id) h = refl
+no_landing (calls.Play lane id start len) h = refl
+no_landing (calls.Feed lane heard) h = refl
+no_landing (calls.Stop lane) h = refl
+no_landing (calls.Retain class key id note) h = refl
+no_landing (calls.Forget class key) h = refl
+no_landing (calls.Lookup class key) h = refl
+no_landing (calls.Census keys) h = refl
+no_landing (calls.Advance moment) h = refl
+no_landing (calls.Sweep limit) h = refl
+no_landing calls.Landed h = sym h
+no_landing (calls.Begin lane) h = refl
+no_landing (calls.Add lane take) h = refl
+no_landing (calls.End lane) h = refl
+no_landing (calls.Levels id) h = refl
 
 pub line_ran : (tapes : List (List ℕ)) (line : Line) (stand : List Binding) (call : Call) (reply : Reply) (ack : ℕ) (old new : List Entry) → IsTrue (is_built_verb (verb_name line.verb)) → is_landing call ≡ false → Some call ≡ asked tapes line.verb stand →
     Adds line.caller call reply ack old new → LineRan tapes line stand old new
@@ -52,7 +71,3 @@ pub line_bound : (tapes : List (List ℕ)) (line : Line) (stand after : List Bin
     Adds line.caller call reply ack old new → SameValues after (bound line.bind (bound_rope reply) stand) → LineBound tapes line stand after old new
 unfolding line_ran
 line_bound tapes line stand after call reply ack old new built lasts same adds set = (line_ran tapes line stand call reply ack old new built lasts same adds, set)
-
-pub then_bound : (r : Result (Unit {0}) NoMemory) (P Q : Type 0) → (P → Q) → OnOk r P → OnOk r Q
-then_bound (Ok x) P Q f h = f h
-then_bound (Err e) P Q f h = tt

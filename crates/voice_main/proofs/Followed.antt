@@ -15,7 +15,8 @@ use Rattle.voice_model.specs.Step.{Legal, IsReply, state_after}
 use Rattle.voice_model.specs.Follows.{Binding, Follows, value_of, variables_after}
 use Rattle.script_lang.specs.declared.scripts.Line.{Line}
 use Rattle.script_lang.specs.Errands.{errand_of, SameValues}
-use Rattle.voice_main.specs.Ordered.{Variables, unset, with_those_of, AreBy, DoesLine, InOrder, LineRan, LineBound, asked_entries, is_landing, lines_of_caller, entries_of_caller, EachFollows}
+use Rattle.voice_main.specs.Ordered.{Variables, unset, with_those_of, AreBy, InOrder, LineRan, LineBound, asked_entries, is_landing, entries_of_caller, EachFollows}
+use Rattle.callers.specs.Lines.{DoesLine, lines_of_caller}
 
 -- ---- one line more
 

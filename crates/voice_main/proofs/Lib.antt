@@ -3,7 +3,6 @@ pub mod Named
 pub mod Stopped
 pub mod Written
 pub mod Texts
-pub mod Built
 pub mod Added
 pub mod Followed
 pub mod Going

@@ -1,15 +1,12 @@
 -- A store that the callers of a script share.
-use Rattle.std.proofs.Common.{◌≡◌, ◌<◌, ◌≤◌, ◌+◌, ◌-◌, ◌⊎◌, ℕ, zero, suc, inl, inr, Bool, true, false, List, [], ◌∷◌, ◌++◌, length, get_or, take, drop, map, cond, ◌==◌, Some, refl, sym, ap, subst, ◌∙◌, arith}
-use Rattle.std.specs.Prelude.{IsTrue, All}
+use Rattle.std.proofs.Common.{◌≡◌, ◌<◌, ◌≤◌, ◌+◌, ◌-◌, ◌⊎◌, ℕ, zero, suc, inl, inr, Bool, true, false, List, [], ◌∷◌, ◌++◌, length, get_or, take, drop, map, cond, ◌==◌, refl, sym, ap, subst, ◌∙◌, arith}
+use Rattle.std.specs.Prelude.{All}
 use Rattle.std.proofs.lemmas.List.{take_all}
 use Rattle.std.proofs.lemmas.Bool.Decides.{nat_tests}
 use Rattle.voice_outside.specs.Disk.{Told}
-use Rattle.voice_model.specs.State.{State}
-use Rattle.voice_model.specs.Image.{opened_from}
 use Rattle.voice_model.specs.declared.calls.Entry.{Entry}
 use Rattle.voice_model.specs.Follows.{Follows}
-use Rattle.voice_store.specs.Facts.{Goes}
-use Rattle.voice_store.specs.Shown.{Shown, Keeps, history_of, tapes_in}
+use Rattle.voice_store.specs.Shown.{Shown, history_of, tapes_in}
 use Rattle.script_lang.specs.declared.scripts.Line.{Line}
 use Rattle.script_lang.specs.Errands.{errand_of}
 use Rattle.script_lang.specs.Shown.{Reading}
@@ -24,21 +21,11 @@ use Rattle.turnstile.proofs.Views.{none_yet}
 use Rattle.voice_server.specs.declared.born.Born.{Born}
 use Rattle.voice_server.specs.declared.standing.Standing.{Standing}
 use Rattle.voice_server.specs.Kept.{GoesOn, IsKept}
-use Rattle.callers.specs.Lines.{Followed}
+use Rattle.callers.specs.Lines.{Followed, lines_of_caller}
 use Rattle.callers.specs.Seats.{PassRan, EachRan}
-use Rattle.voice_main.specs.Ordered.{EachFollows, lines_of_caller, entries_of_caller}
+use Rattle.voice_main.specs.Ordered.{EachFollows, entries_of_caller}
 use Rattle.voice_main.specs.Ran.{Shared, SharedWhole, Begun, Made, Performed}
 use Rattle.voice_main.proofs.Came.{performed_by, legal_of}
-
--- a store just opened
-pub opened_kept : {D : Type 0} (told : D → Told) (disk : D) (s : Shown D) → s.origin ≡ disk → (first : State) × Keeps told first s × (IsTrue (told disk).honest → opened_from (told disk).bytes ≡ Some first)
-    → Goes 5 (told disk) (told s.disk) → IsKept told s
-opened_kept told disk s origin state goes = record {
-  first = state.0;
-  keeps = state.1;
-  opened = subst (λ d. IsTrue (told d).honest → opened_from (told d).bytes ≡ Some state.0) (sym origin) state.2;
-  goes = subst (λ d. GoesOn (told d) (told s.disk)) (sym origin) (record { size = goes.size; honest = goes.honest; later = goes.later; faults = goes.faults });
-}
 
 -- ---- each caller's entries
 

@@ -7,9 +7,10 @@ use Rattle.std.specs.Prelude.{ℕ, List, [], ◌∷◌, ◌++◌, ◌≡◌, ◌
 use Rattle.voice_model.specs.declared.calls.Entry.{Entry}
 use Rattle.voice_model.specs.declared.calls.Call.{Call}
 use Rattle.voice_model.specs.declared.calls.Call.TheVariants as calls
-use Rattle.voice_model.specs.Follows.{Binding, Does, Follows, variables_after}
+use Rattle.voice_model.specs.Follows.{Binding, Follows, variables_after}
 use Rattle.script_lang.specs.declared.scripts.Line.{Line}
 use Rattle.script_lang.specs.Errands.{errand_of, SameValues}
+use Rattle.callers.specs.Lines.{lines_of_caller, DoesLine}
 
 abbrev pub is_landing : Call → Bool
 is_landing calls.Landed = true
@@ -39,19 +40,12 @@ unset = λ caller. []
 abbrev pub with_those_of : ℕ → List Binding → Variables → Variables
 with_those_of caller own variables = λ other. cond (caller == other) own (variables other)
 
--- the entries of one line, as its caller's variables stand
-abbrev pub DoesLine : List (List ℕ) → List Binding → Line → List Entry → Type 0
-DoesLine tapes variables line own = Does ((errand_of tapes line).asks variables) (errand_of tapes line).serves own
-
 -- the entries are those of the lines, in order, each once, from these variables of each caller on
 abbrev pub InOrder : List (List ℕ) → Variables → List Line → List Entry → Type 0
 InOrder tapes variables [] entries = entries ≡ []
 InOrder tapes variables (line ∷ lines) entries =
     (own : List Entry) × (rest : List Entry) × (entries ≡ own ++ rest) × AreBy line.caller own × DoesLine tapes (variables line.caller) line own
     × InOrder tapes (with_those_of line.caller (variables_after line.bind own (variables line.caller)) variables) lines rest
-
-abbrev pub lines_of_caller : ℕ → List Line → List Line
-lines_of_caller caller lines = filter (λ line. line.caller == caller) lines
 
 abbrev pub entries_of_caller : ℕ → List Entry → List Entry
 entries_of_caller caller entries = filter (λ e. e.caller == caller) entries

@@ -24,7 +24,8 @@ use Rattle.script_lang.specs.Shown.{Reading}
 use Rattle.script_lang.specs.Verbs.{is_built_verb}
 use Rattle.script_lang.specs.Grammar.{IsScript}
 use Rattle.voice_main.specs.Load.{AreFiles}
-use Rattle.voice_main.specs.Ordered.{InOrder, EachFollows, asked_entries, unset, lines_of_caller, entries_of_caller}
+use Rattle.voice_main.specs.Ordered.{InOrder, EachFollows, asked_entries, unset, entries_of_caller}
+use Rattle.callers.specs.Lines.{lines_of_caller}
 
 -- an honest disk was opened as what its bytes recover, and a crash since an entry leaves that entry's state or a later one; the moments of the entries never fall, and at most so many entries tell of faults as faults rose
 pub record OnDisk (first : State) (tapes : List (List ℕ)) (old new : Told) (history : List Entry) : Type 0 where

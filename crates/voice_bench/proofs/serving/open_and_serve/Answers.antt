@@ -1,4 +1,4 @@
-use Rattle.voice_bench.proofs.Opened.{opened_kept}
+use Rattle.voice_server.proofs.Keeping.{opened_kept}
 use Rattle.voice_bench.proofs.serving.open_and_serve.Goals as goal
 
 pub serve-requires-clause-kept : goal.serve-requires-clause-kept

@@ -1,5 +1,6 @@
 use Rattle.std.specs.Arc.{arc_value}
-use Rattle.voice_main.proofs.Shares.{opened_kept, begun_from, made_from}
+use Rattle.voice_server.proofs.Keeping.{opened_kept}
+use Rattle.voice_main.proofs.Shares.{begun_from, made_from}
 use Rattle.voice_main.proofs.threads.call_on_threads.Goals as goal
 
 pub share-requires-clause-kept : goal.share-requires-clause-kept
