@@ -182,26 +182,41 @@ fn asked(
     ([u64::from(kind), size], after)
 }
 
-// What was seen of a change, and the counts once it was done, or given back.
+// Six changes in turn: what was seen of each, and the counts once it was done, or given back.
+fn six_changes(
+    alloc: Global,
+    shape: &Shape,
+) -> Result<[(([u64; 2], [u64; 4]), [u64; 4]); 6], NoMemory> {
+    let mut parts = empty_parts(alloc, shape)?;
+    let first = asked(&mut parts, alloc, shape, Ask::Record, false);
+    let first = (first, counts(&parts));
+    let second = asked(&mut parts, alloc, shape, Ask::Record, true);
+    let second = (second, counts(&parts));
+    let third = asked(&mut parts, alloc, shape, Ask::Retain, false);
+    let third = (third, counts(&parts));
+    let fourth = asked(&mut parts, alloc, shape, Ask::Retain, true);
+    let fourth = (fourth, counts(&parts));
+    let fifth = asked(&mut parts, alloc, shape, Ask::Advance, false);
+    let fifth = (fifth, counts(&parts));
+    let sixth = asked(&mut parts, alloc, shape, Ask::Advance, true);
+    let sixth = (sixth, counts(&parts));
+    Ok([first, second, third, fourth, fifth, sixth])
+}
+
 #[test]
 fn changes_come_or_are_given_back(rt: HostRuntime) -> Result<(), Fail> {
-    let alloc = rt.alloc();
     let Ok(shape) = small_shape() else {
         return Ok(());
     };
-    let steps = [
-        (Ask::Record, false, [11, 29], [1, 0, 0, 13], [0, 0, 0, 16]),
-        (Ask::Record, true, [11, 29], [1, 0, 0, 13], [1, 0, 0, 13]),
-        (Ask::Retain, false, [3, 14], [1, 1, 0, 13], [1, 0, 0, 13]),
-        (Ask::Retain, true, [3, 14], [1, 1, 0, 13], [1, 1, 0, 13]),
-        (Ask::Advance, false, [7, 9], [1, 1, 60, 13], [1, 1, 0, 13]),
-        (Ask::Advance, true, [7, 9], [1, 1, 60, 13], [1, 1, 60, 13]),
+    let changes = six_changes(rt.alloc(), &shape)?;
+    let want = [
+        (([11, 29], [1, 0, 0, 13]), [0, 0, 0, 16]),
+        (([11, 29], [1, 0, 0, 13]), [1, 0, 0, 13]),
+        (([3, 14], [1, 1, 0, 13]), [1, 0, 0, 13]),
+        (([3, 14], [1, 1, 0, 13]), [1, 1, 0, 13]),
+        (([7, 9], [1, 1, 60, 13]), [1, 1, 0, 13]),
+        (([7, 9], [1, 1, 60, 13]), [1, 1, 60, 13]),
     ];
-    let mut parts = empty_parts(alloc, &shape)?;
-    for (ask, comes, spelled, after, end) in steps {
-        let seen = asked(&mut parts, alloc, &shape, ask, comes);
-        assert_eq!(rt; seen, (spelled, after));
-        assert_eq!(rt; counts(&parts), end);
-    }
+    assert_eq!(rt; changes, want);
     Ok(())
 }
