@@ -4,11 +4,15 @@
 #[cfg(test)]
 mod crashes;
 #[cfg(test)]
+mod crowds;
+#[cfg(test)]
 mod damage;
 #[cfg(test)]
 mod doubts;
 #[cfg(test)]
 mod faults;
+#[cfg(test)]
+mod held;
 #[cfg(test)]
 mod runs;
 #[cfg(test)]

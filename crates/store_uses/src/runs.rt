@@ -8,7 +8,7 @@ use std::thread::Threads;
 use voice_disk::MemDisk;
 use voice_journal::Journal;
 use voice_main::{Ended, run};
-use voice_outside::{Disk, MemShelf, MemSink, OpenGate};
+use voice_outside::{Disk, Gate, MemShelf, MemSink, OpenGate};
 use voice_units::Name;
 
 /// The samples of the file `f20`.
@@ -47,13 +47,25 @@ pub fn run_words<R: Threads + Wait + Sync, D: Disk + Drop>(
     script: &[u8],
     disk: D,
 ) -> Result<(Ended<D>, Vec<u8>), Fail> {
+    run_gated(rt, alloc, asked, script, disk, &OpenGate)
+}
+
+/// Runs these words over a script and a disk, with a gate that may hold callers back.
+pub fn run_gated<R: Threads + Wait + Sync, D: Disk + Drop, G: Gate>(
+    rt: &R,
+    alloc: Global,
+    asked: &[&str],
+    script: &[u8],
+    disk: D,
+    gate: &G,
+) -> Result<(Ended<D>, Vec<u8>), Fail> {
     let mut words = Vec::new(alloc);
     for word in asked {
         words.push(String::from_str(alloc, word)?)?;
     }
     let mut shelf = shelf_of(alloc, script)?;
     let mut sink = MemSink::new(alloc, Vec::new(alloc));
-    let ended = run(rt, alloc, &words, &mut shelf, &mut sink, disk, &OpenGate);
+    let ended = run(rt, alloc, &words, &mut shelf, &mut sink, disk, gate);
     let text = sink.bytes().to_vec(alloc)?;
     Ok((ended, text))
 }

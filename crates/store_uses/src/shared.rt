@@ -22,6 +22,22 @@ fn last_of(history: &[Entry], caller: u16) -> (u32, u64) {
     found
 }
 
+const FOUR: &[u8] = b"1 a = record z8\n1 length a\n2 b = record z1\n2 length b\n";
+
+// The four lines stand in one of the six orders that keep each caller's own.
+#[test]
+fn two_callers_take_turns_in_any_order(rt: HostRuntime) -> Result<(), Fail> {
+    for _ in 0..200 {
+        let disk = small_disk(rt.alloc(), 2, &[])?;
+        let words = ["run", "s", "--threads"];
+        let (ended, _text) = run_words(&rt, rt.alloc(), &words, FOUR, disk)?;
+        assert_eq!(rt; ended.history.len(), 4);
+        assert!(rt; last_of(&ended.history, 1) == (2, 8));
+        assert!(rt; last_of(&ended.history, 2) == (2, 1));
+    }
+    Ok(())
+}
+
 #[test]
 fn each_callers_lines_run_in_order(rt: HostRuntime) -> Result<(), Fail> {
     for asked in [["run", "s", "--threads"], ["run", "--threads", "s"]] {

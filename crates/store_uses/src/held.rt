@@ -1,0 +1,147 @@
+//! Gates that hold callers back: what they are told, and that each caller has a thread of its own.
+
+use crate::runs::{run_gated, small_disk};
+use std::alloc::Global;
+use std::sync::atomic::{AtomicBool, AtomicU32, AtomicUsize, Ordering};
+use std::test::Fail;
+use std::thread;
+use voice_main::Status;
+use voice_model::Entry;
+use voice_outside::Gate;
+
+// Line 1 waits for line 2, and line 3 for line 1: no body on one thread does them all.
+const SCRIPT: &[u8] = b"2 a = record z8\n1 b = record z1\n1 c = concat b b\n2 d = concat a a a\n";
+
+// So often a caller looks at most before it goes on all the same.
+const LIMIT: u32 = 1_000_000;
+
+/// A gate that lets a line wait for another one, and keeps what it was told.
+#[derive(Drop)]
+struct Meeting {
+    done: [AtomicBool; 5],
+    late: AtomicBool,
+    told: [AtomicU32; 16],
+    next: AtomicUsize,
+}
+
+impl Meeting {
+    fn new() -> Meeting {
+        Meeting {
+            done: [
+                AtomicBool::new(false),
+                AtomicBool::new(false),
+                AtomicBool::new(false),
+                AtomicBool::new(false),
+                AtomicBool::new(false),
+            ],
+            late: AtomicBool::new(false),
+            told: [
+                AtomicU32::new(0),
+                AtomicU32::new(0),
+                AtomicU32::new(0),
+                AtomicU32::new(0),
+                AtomicU32::new(0),
+                AtomicU32::new(0),
+                AtomicU32::new(0),
+                AtomicU32::new(0),
+                AtomicU32::new(0),
+                AtomicU32::new(0),
+                AtomicU32::new(0),
+                AtomicU32::new(0),
+                AtomicU32::new(0),
+                AtomicU32::new(0),
+                AtomicU32::new(0),
+                AtomicU32::new(0),
+            ],
+            next: AtomicUsize::new(0),
+        }
+    }
+
+    // Keeps what the gate was told, as digits: before or after, caller, line.
+    fn keep(&self, when: u16, caller: u16, line: u32) {
+        let place = self.next.fetch_add(1, Ordering::SeqCst);
+        if let Some(told) = self.told.get(place) {
+            told.store(
+                u32::from(when) + 10 * u32::from(caller) + line % 10,
+                Ordering::SeqCst,
+            );
+        }
+    }
+
+    // Waits until a line is done.
+    fn wait_for(&self, line: usize) {
+        for _ in 0..LIMIT {
+            if self.done[line % 5].load(Ordering::SeqCst) {
+                return;
+            }
+            thread::yield_now();
+        }
+        self.late.store(true, Ordering::SeqCst);
+    }
+
+    // What it was told of a caller, in order.
+    fn told_of(&self, alloc: Global, caller: u32) -> Result<Vec<u32>, Fail> {
+        let mut all = Vec::new(alloc);
+        for told in &self.told {
+            let code = told.load(Ordering::SeqCst);
+            if code / 10 % 10 == caller {
+                all.push(code)?;
+            }
+        }
+        Ok(all)
+    }
+}
+
+impl Gate for Meeting {
+    fn before(&self, caller: u16, line: u32, turn: u32) {
+        self.keep(100 + 1000 * ((turn % 10) as u16), caller, line);
+        if line == 1 {
+            self.wait_for(2);
+        }
+        if line == 3 {
+            self.wait_for(1);
+        }
+    }
+
+    fn after(&self, caller: u16, line: u32) {
+        self.keep(200, caller, line);
+        if line < 5 {
+            self.done[line as usize].store(true, Ordering::SeqCst);
+        }
+    }
+}
+
+// Whether the first entries are of these callers: a gate that is told of a line only behind its call would hold nobody back.
+fn begins_with(history: &[Entry], callers: &[u16]) -> bool {
+    history.len() >= callers.len()
+        && history
+            .iter()
+            .zip(callers)
+            .all(|(entry, caller)| entry.caller == *caller)
+}
+
+#[test]
+fn callers_that_wait_for_one_another_end(rt: HostRuntime) -> Result<(), Fail> {
+    for _ in 0..20 {
+        let gate = Meeting::new();
+        let disk = small_disk(rt.alloc(), 2, &[])?;
+        let words = ["run", "s", "--threads"];
+        let (ended, _text) = run_gated(&rt, rt.alloc(), &words, SCRIPT, disk, &gate)?;
+        assert_eq!(rt; ended.status, Status::Done);
+        assert!(rt; !gate.late.load(Ordering::SeqCst));
+        assert!(rt; begins_with(&ended.history, &[1, 2]));
+        assert!(rt; gate.told_of(rt.alloc(), 1)?.as_slice() == [112, 212, 113, 213].as_slice());
+        assert!(rt; gate.told_of(rt.alloc(), 2)?.as_slice() == [121, 221, 124, 224].as_slice());
+    }
+    Ok(())
+}
+
+#[test]
+fn one_thread_keeps_them_waiting(rt: HostRuntime) -> Result<(), Fail> {
+    let gate = Meeting::new();
+    let disk = small_disk(rt.alloc(), 2, &[])?;
+    let (ended, _text) = run_gated(&rt, rt.alloc(), &["run", "s"], SCRIPT, disk, &gate)?;
+    assert_eq!(rt; ended.status, Status::Done);
+    assert!(rt; gate.late.load(Ordering::SeqCst));
+    Ok(())
+}
