@@ -6,7 +6,8 @@ use Rattle.voice_model.specs.declared.calls.Call.{Call}
 use Rattle.voice_model.specs.declared.calls.Call.TheVariants as calls
 use Rattle.voice_model.specs.Tapes.{whole_of, HasTake}
 use Rattle.voice_model.specs.Follows.{Binding}
-use Rattle.voice_store.specs.Facts.{TakesAreIn, HasRopes, is_built}
+use Rattle.voice_store.specs.Facts.{TakesAreIn, HasRopes}
+use Rattle.built_calls.specs.Built.{is_built}
 use Rattle.script_lang.specs.declared.scripts.Verb.{Verb}
 use Rattle.script_lang.specs.declared.scripts.Verb.TheVariants as verbs
 use Rattle.script_lang.specs.Errands.{asked, meant, HasTape, HasItsRopes}

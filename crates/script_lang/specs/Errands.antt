@@ -11,7 +11,8 @@ use Rattle.voice_model.specs.declared.calls.Call.{Call}
 use Rattle.voice_model.specs.declared.calls.Call.TheVariants as calls
 use Rattle.voice_model.specs.Tapes.{whole_of}
 use Rattle.voice_model.specs.Follows.{Binding, Errand, value_of}
-use Rattle.voice_model.specs.Step.{is_asked_of, is_built_of}
+use Rattle.voice_model.specs.Step.{is_asked_of}
+use Rattle.built_calls.specs.Built.{is_built}
 use Rattle.script_lang.specs.declared.scripts.Line.{Line}
 use Rattle.script_lang.specs.declared.verbs.VerbName.{VerbName}
 use Rattle.script_lang.specs.Verbs.{is_built_verb}
@@ -71,7 +72,7 @@ SameValues a b = (name : List ℕ) → value_of a name ≡ value_of b name
 -- a verb is built where its call is
 abbrev pub IsBuiltAlike : VerbName → Option Call → Type 0
 IsBuiltAlike name None = Unit {0}
-IsBuiltAlike name (Some call) = is_built_of call ≡ is_built_verb name
+IsBuiltAlike name (Some call) = is_built call ≡ is_built_verb name
 
 -- a caller may ask the call
 abbrev pub IsAskedOf : Option Call → Type 0

@@ -7,7 +7,8 @@ use Rattle.voice_model.specs.declared.calls.Entry.{Entry}
 use Rattle.voice_model.specs.declared.calls.Reply.{Reply}
 use Rattle.voice_model.specs.declared.calls.Call.TheVariants as calls
 use Rattle.voice_model.specs.Follows.{Binding, bound, bound_rope}
-use Rattle.voice_store.specs.Facts.{Adds, AddsLanding, entry_of, landing_at, is_built}
+use Rattle.voice_store.specs.Facts.{Adds, AddsLanding, entry_of, landing_at}
+use Rattle.built_calls.specs.Built.{is_built}
 use Rattle.script_lang.specs.declared.scripts.Line.{Line}
 use Rattle.script_lang.specs.Parts.{served}
 use Rattle.script_lang.specs.Verbs.{is_built_verb}

@@ -279,15 +279,6 @@ is_asked_of (calls.Feed lane back) = false
 is_asked_of calls.Landed = false
 is_asked_of _ = true
 
--- Whether the store can do the call yet. It grows with the store, and goes when all calls are built.
-abbrev pub is_built_of : Call → Bool
-is_built_of (calls.Record take) = true
-is_built_of (calls.Concat ropes) = true
-is_built_of (calls.Sub rope start len) = true
-is_built_of (calls.Replace rope start len with) = true
-is_built_of (calls.Length rope) = true
-is_built_of _ = false
-
 -- ---- faults and doubt
 
 -- how a call went: it was answered or refused; a device call failed; a device call failed at or after the write that commits

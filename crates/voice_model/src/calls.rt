@@ -1,7 +1,7 @@
 //! Calls, their replies and the entries of a history.
 
 ghost use Rattle.std.specs.Prelude.{◌≡◌};
-ghost use Rattle.voice_model.specs.Step.{is_asked_of, is_built_of};
+ghost use Rattle.voice_model.specs.Step.{is_asked_of};
 
 use super::lists::{KeyList, PeakList, RopeList, TalkList};
 use super::texts::{Key, Note};
@@ -151,19 +151,5 @@ impl Call {
         ensures { result ≡ is_asked_of self.now }
     {
         !matches!(self, Call::Feed(..) | Call::Landed)
-    }
-
-    /// Whether the store can do it yet.
-    pub fn is_built(&self) -> bool
-        ensures { result ≡ is_built_of self.now }
-    {
-        matches!(
-            self,
-            Call::Record(..)
-                | Call::Concat(..)
-                | Call::Sub(..)
-                | Call::Replace(..)
-                | Call::Length(..)
-        )
     }
 }

@@ -139,7 +139,6 @@ fn calls_print(rt: HostRuntime) -> Result<(), Fail> {
         let text = format!(in alloc; "{call}")?;
         assert_eq!(rt; text.as_str(), wanted);
         assert_eq!(rt; call.is_asked(), asked);
-        let _built = call.is_built();
     }
     Ok(())
 }

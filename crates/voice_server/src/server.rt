@@ -1,7 +1,8 @@
 //! Calls under turns.
 
 ghost use Rattle.std.specs.Prelude.{◌≡◌, ◌<◌, ◌≤◌, ◌+◌, length, IfOk, IfErr, OnErr, IsTrue};
-ghost use Rattle.voice_store.specs.Facts.{Adds, AddsLanding, TakesAreIn, HasRopes, is_built};
+ghost use Rattle.voice_store.specs.Facts.{Adds, AddsLanding, TakesAreIn, HasRopes};
+ghost use Rattle.built_calls.specs.Built.{is_built};
 ghost use Rattle.turnstile.specs.Turns.{Begins};
 ghost use Rattle.turnstile.specs.Passes.{mine, seen, callers_of, AreOf, AreNewFrom};
 ghost use Rattle.voice_store.specs.Shown.{history_of, tapes_in};

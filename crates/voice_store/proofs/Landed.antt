@@ -17,7 +17,8 @@ use Rattle.voice_store.specs.declared.inside.Inside.{Inside}
 use Rattle.voice_store.specs.Stood.{last_of, tapes_of, Stood, Fills, Brings, IsSeated, AcksRise, AreQuiet, IsSure, IsUnsure, Lands}
 use Rattle.voice_model.specs.declared.calls.Call.TheVariants as calls
 use Rattle.voice_store.specs.Shown.{FaultsCover, Stands}
-use Rattle.voice_store.specs.Facts.{Adds, AddsLanding, Goes, entry_of, landing_at, is_built, most_calls}
+use Rattle.voice_store.specs.Facts.{Adds, AddsLanding, Goes, entry_of, landing_at, most_calls}
+use Rattle.built_calls.specs.Built.{is_built}
 use Rattle.voice_store.proofs.Refused.{wrong}
 
 pub goes_on : (m n most : ℕ) (old mid new : Told) → Goes m old mid → Goes n mid new → m + n ≤ most → Goes most old new

@@ -10,7 +10,8 @@ use Rattle.voice_model.specs.declared.calls.Call.{Call}
 use Rattle.voice_model.specs.declared.calls.Call.TheVariants as calls
 use Rattle.voice_model.specs.declared.calls.Reply.TheVariants as replies
 use Rattle.voice_model.specs.declared.calls.Why.TheVariants as why
-use Rattle.voice_store.specs.Facts.{MayCommit, is_built, is_edit}
+use Rattle.voice_store.specs.Facts.{MayCommit, is_edit}
+use Rattle.built_calls.specs.Built.{is_built}
 use Rattle.voice_store.proofs.Refused.{wrong, is_reply, stays_home, may_answer, after_answered}
 
 -- a call that makes a rope does nothing else

@@ -18,7 +18,8 @@ use Rattle.edits.specs.Shown.{ShowsState, IsLength}
 use Rattle.voice_outside.specs.Disk.{Told}
 use Rattle.voice_store.specs.declared.inside.Inside.{Inside}
 use Rattle.voice_store.specs.Stood.{is_fault_of, Fills, IsSure, IsUnsure, Stood, last_of}
-use Rattle.voice_store.specs.Facts.{Stays, IsFault, entry_of, is_built}
+use Rattle.voice_store.specs.Facts.{Stays, IsFault, entry_of}
+use Rattle.built_calls.specs.Built.{is_built}
 
 -- ---- a call that the store can do
 

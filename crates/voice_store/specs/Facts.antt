@@ -8,7 +8,7 @@
 --     OnlyLooked old new      no byte of a disk is changed, and a crash leaves nothing new
 --     IsFault reply      a reply that tells of a device fault
 --     TakesAreIn, HasRopes      what the store wants of the words of a call
---     is_built call, is_edit call      a call that the store can do;  one that makes a rope of others
+--     is_edit call      a call that makes a rope of others
 --     most_calls block call      how many device calls its answer takes at most
 use Rattle.std.specs.Prelude.{◌≡◌, ◌⊎◌, ℕ, ◌+◌, ◌≤◌, Bool, true, false, List, [], ◌∷◌, ◌++◌, length, Some, None}
 use Rattle.voice_outside.specs.Disk.{Told, Now, Leaves}
@@ -83,15 +83,6 @@ TakesAreIn tapes _ = Unit {0}
 abbrev pub HasRopes : Call → Type 0
 HasRopes (calls.Concat ids) = (1 ≤ length ids) × (length ids ≤ 16)
 HasRopes _ = Unit {0}
-
--- a call that the store can do
-abbrev pub is_built : Call → Bool
-is_built (calls.Record take) = true
-is_built (calls.Concat ids) = true
-is_built (calls.Sub id start len) = true
-is_built (calls.Replace id start len with) = true
-is_built (calls.Length id) = true
-is_built _ = false
 
 -- a call that makes a rope of others
 abbrev pub is_edit : Call → Bool

@@ -6,7 +6,8 @@ ghost use Rattle.voice_model.specs.State.{State};
 ghost use Rattle.voice_model.specs.Changes.{is_changing};
 ghost use Rattle.voice_model.specs.Step.{landing_failed};
 ghost use Rattle.voice_store.specs.Stood.{Stood, last_of, tapes_of};
-ghost use Rattle.voice_store.specs.Facts.{Adds, AddsLanding, Goes, HasRopes, IsFault, TakesAreIn, entry_of, is_built, most_calls};
+ghost use Rattle.voice_store.specs.Facts.{Adds, AddsLanding, Goes, HasRopes, IsFault, TakesAreIn, entry_of, most_calls};
+ghost use Rattle.built_calls.specs.Built.{is_built};
 
 use crate::inside::Inside;
 use voice_model::{Call, Reply, Why};

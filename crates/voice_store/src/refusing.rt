@@ -5,7 +5,8 @@ ghost use Rattle.voice_model.specs.State.{State};
 ghost use Rattle.voice_model.specs.Step.{refusal, nothing_to_land};
 ghost use Rattle.edits.specs.Shown.{IsLength};
 ghost use Rattle.voice_store.specs.Stood.{Stood, last_of, tapes_of};
-ghost use Rattle.voice_store.specs.Facts.{IsFault, entry_of, is_built};
+ghost use Rattle.voice_store.specs.Facts.{IsFault, entry_of};
+ghost use Rattle.built_calls.specs.Built.{is_built};
 
 use crate::inside::Inside;
 use edits::length;

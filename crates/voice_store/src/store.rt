@@ -12,7 +12,8 @@ ghost use Rattle.voice_model.specs.Room.{free};
 ghost use Rattle.voice_model.specs.Image.{Reading, reading, opened_from};
 ghost use Rattle.voice_store.specs.Shown.{Keeps, HasRoomFor, history_of, tapes_in, block_of, state_of};
 ghost use Rattle.voice_store.specs.Stood.{ShowsState};
-ghost use Rattle.voice_store.specs.Facts.{Adds, AddsLanding, Goes, OnlyLooked, IsFault, TakesAreIn, HasRopes, is_built, most_calls};
+ghost use Rattle.voice_store.specs.Facts.{Adds, AddsLanding, Goes, OnlyLooked, IsFault, TakesAreIn, HasRopes, most_calls};
+ghost use Rattle.built_calls.specs.Built.{is_built};
 
 use crate::inside::Inside;
 use journal_readings::laws::opens_empty;

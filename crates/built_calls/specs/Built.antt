@@ -1,0 +1,14 @@
+-- Which calls the store can do.
+--     is_built call      the store can do it
+use Rattle.std.specs.Prelude.{Bool, true, false}
+use Rattle.voice_model.specs.declared.calls.Call.{Call}
+use Rattle.voice_model.specs.declared.calls.Call.TheVariants as calls
+
+-- the store can do the call: one that is built gets a line here and in `can_do`, and its verb one in the script language
+abbrev pub is_built : Call → Bool
+is_built (calls.Record take) = true
+is_built (calls.Concat ropes) = true
+is_built (calls.Sub rope start len) = true
+is_built (calls.Replace rope start len with) = true
+is_built (calls.Length rope) = true
+is_built _ = false
