@@ -1,6 +1,5 @@
 -- What the tables of parts show of a state, and what edits answer there.
 --     ShowsState held parts s      the tables show the durable part of a state, while these passages are held
---     all_but_last xs      a list without its last element
 --     before_journal s tapes call      the conditions of a call but the journal's
 --     IsRopeOf s tapes call pieces      the call makes a rope of these pieces, unless the journal refuses it
 --     IsMade made s tapes call      an edit's answer is what the conditions before the journal's give
@@ -16,6 +15,7 @@ use Rattle.voice_model.specs.Samples.{Tagged, spot_of, pieces_in}
 use Rattle.voice_model.specs.State.{State}
 use Rattle.voice_model.specs.State.Effect.{Edited}
 use Rattle.voice_model.specs.Changes.{effect_of, is_changing}
+use Rattle.voice_model.specs.Early.{all_but_last}
 use Rattle.voice_model.specs.Step.{conditions, first_of, refusal, if_full, reply_of}
 use Rattle.voice_model.specs.Replay.{durable_by, used_pairs}
 use Rattle.voice_model.specs.declared.calls.Call.{Call}
@@ -31,12 +31,6 @@ use Rattle.edits.specs.declared.made.Made.TheVariants.{Rope, Refused}
 -- the tables show the durable part of a state, while these passages are held
 abbrev pub ShowsState : List (List Piece) → Parts → State → Type 0
 ShowsState held parts s = Shows held parts (durable_by spot_of s.kept)
-
--- a list without its last element
-abbrev pub all_but_last : {A : Type 0} → List A → List A
-all_but_last [] = []
-all_but_last (x ∷ []) = []
-all_but_last (x ∷ y ∷ xs) = x ∷ all_but_last (y ∷ xs)
 
 -- the conditions of a call but the journal's, which is the last one of a call that can make a change
 abbrev pub before_journal : State → List (List ℕ) → Call → List (Option Why)

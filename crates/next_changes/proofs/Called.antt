@@ -1,18 +1,19 @@
--- What is ready of a call that nothing refuses may follow, and does where the journal is read again what the call did.
+-- What is ready of a call that nothing refuses, but perhaps the journal, may follow, and does where the journal is read again what the call did.
 use Rattle.std.proofs.Common.{◌≡◌, ℕ, ◌+◌, false, List, [], length, Option, Some, None, refl, sym, ◌∙◌, ap, subst}
 use Rattle.voice_units.specs.Spots.{Spot}
 use Rattle.voice_model.specs.Samples.{Tagged, spot_of}
 use Rattle.voice_model.specs.State.{State, Durable, Effect}
 use Rattle.voice_model.specs.State.Effect.{Recorded, Edited, Retained, Forgotten, Counted, Swept, Advanced}
 use Rattle.voice_model.specs.Changes.{effect_of, changed}
-use Rattle.voice_model.specs.Step.{refusal}
+use Rattle.voice_model.specs.Early.{all_but_last}
+use Rattle.voice_model.specs.Step.{conditions, first_of}
 use Rattle.voice_model.specs.Spelling.{spelling}
 use Rattle.voice_model.specs.Replay.{Rebuilt, durable_by, effect_by}
 use Rattle.voice_model.specs.Base.{change_of, HasAddresses}
 use Rattle.voice_model.specs.Valid.{IsState, InRange, TakesFree}
 use Rattle.voice_model.specs.declared.calls.Call.{Call}
 use Rattle.voice_model.specs.declared.changes.Change.{Change}
-use Rattle.voice_model.proofs.LegalOfCalls.{made_of_call, legal_of_call}
+use Rattle.voice_model.proofs.LegalOfCalls.{made_of_call, legal_early}
 use Rattle.voice_model.proofs.LegalInReplay.{acted_again}
 use Rattle.voice_model.proofs.ChangesOfEffects.{size_again}
 use Rattle.recovery.specs.declared.parts.Parts.{Parts}
@@ -39,7 +40,7 @@ names_none (Swept ids) e = record { change = λ form. refl; free = λ b. tt; add
 names_none (Advanced moment) e = record { change = λ form. refl; free = λ b. tt; addresses = λ block. tt; again = λ fill. refl }
 
 pub of_call : (fill : Spot → Tagged) → ((x : Spot) → spot_of (fill x) ≡ x) → (parts : Parts) (b : Rebuilt) (s : State) (tapes : List (List ℕ)) (call : Call) (ready : ReadyChange)
-    → Rebuilds parts b → durable_by fill b.kept ≡ s.kept → b.form ≡ s.form → IsState s → InRange call → refusal s tapes call ≡ None
+    → Rebuilds parts b → durable_by fill b.kept ≡ s.kept → b.form ≡ s.form → IsState s → InRange call → first_of (all_but_last (conditions s tapes call)) ≡ None
     → MayBeReady parts.interests.spare b.kept (Some ready) (change_for (effect_of s tapes call))
     → Keeps fill parts b s ready (effect_of s tapes call)
 of_call fill same parts b s tapes call ready rebuilds kept form valid range free may = by (effect_of s tapes call) refl may
@@ -48,7 +49,7 @@ of_call fill same parts b s tapes call ready rebuilds kept form valid range free
     by None e h = absurd h
     by (Some effect) e h =
         let none = names_none effect (plain parts.interests.spare b.kept ready.act (change_of 2 [] effect) h.does).no_rope in
-        let legal = legal_of_call fill same b s tapes call [] effect kept form valid range free e (none.free b) in
+        let legal = legal_early fill same b s tapes call [] effect kept form valid range free e (none.free b) in
         record {
           effect = effect;
           is = refl;

@@ -2,13 +2,14 @@
 --     IsGiven parts b next c      what a change that is ready gives
 --     Keeps fill parts b s other made      a change that brings no rope keeps an effect on a state, and may follow
 --     NextGives      each change that is ready gives that
---     ReadyIsNext      what is ready of a rope, of a legal change, and of a call that nothing refuses may follow
+--     ReadyIsNext      what is ready of a rope, of a legal change, and of a call that nothing refuses but perhaps the journal may follow
 use Rattle.std.specs.Prelude.{◌≡◌, ℕ, ◌+◌, true, List, [], ◌++◌, length, Option, Some, None, is_some}
 use Rattle.voice_units.specs.Spots.{Spot}
 use Rattle.voice_model.specs.Samples.{Tagged, spot_of}
 use Rattle.voice_model.specs.State.{State, Effect}
 use Rattle.voice_model.specs.Changes.{effect_of, changed, frame_size}
-use Rattle.voice_model.specs.Step.{refusal}
+use Rattle.voice_model.specs.Early.{all_but_last}
+use Rattle.voice_model.specs.Step.{conditions, first_of}
 use Rattle.voice_model.specs.Spelling.{spelling, keeps_grammar}
 use Rattle.voice_model.specs.Replay.{Rebuilt, is_legal, brings, acted, new_places, durable_by}
 use Rattle.voice_model.specs.Base.{change_of}
@@ -55,10 +56,10 @@ pub record ReadyIsNext : Type 0 where
   pub rope : (parts : Parts) (b : Rebuilt) (next : NextRope) (c : Change) → ropes.IsReady parts b next c → IsNext parts b (Rope next) c
   -- another change that may follow
   pub other : (parts : Parts) (b : Rebuilt) (ready : ReadyChange) (c : Change) → Rebuilds parts b → is_legal b c ≡ true → IsReady parts.interests.spare b.kept ready c → IsNext parts b (Other ready) c
-  -- the change of a call that nothing refuses, in a valid state that what was rebuilt gives
+  -- the change of a call that nothing refuses but perhaps its last condition, the journal's, in a valid state that what was rebuilt gives
   pub of_call :
       (fill : Spot → Tagged) → ((x : Spot) → spot_of (fill x) ≡ x) → (parts : Parts) (b : Rebuilt) (s : State) (tapes : List (List ℕ)) (call : Call) (ready : ReadyChange)
-      → Rebuilds parts b → durable_by fill b.kept ≡ s.kept → b.form ≡ s.form → IsState s → InRange call → refusal s tapes call ≡ None
+      → Rebuilds parts b → durable_by fill b.kept ≡ s.kept → b.form ≡ s.form → IsState s → InRange call → first_of (all_but_last (conditions s tapes call)) ≡ None
       → MayBeReady parts.interests.spare b.kept (Some ready) (change_for (effect_of s tapes call))
       → Keeps fill parts b s ready (effect_of s tapes call)
   -- where nothing is ready, the call alters nothing

@@ -9,6 +9,7 @@ use Rattle.voice_model.specs.Samples.{Tagged, recording, recorded_from, pieces_i
 use Rattle.voice_model.specs.State.{State, Durable, Live, LaneState, rope_at, is_live, samples_of, samples_or_none, joined, first_unknown, row_at, has_row, lane_at, quiet_lane, class_number, spelled_number}
 use Rattle.voice_model.specs.State.Effect.{Counted, Swept, Advanced}
 use Rattle.voice_model.specs.Changes.{effect_of, if_any, unless_empty, unlisted_keys, expired_rows, swept_ropes, is_due, without_expired, taking_of}
+use Rattle.voice_model.specs.Early.{all_but_last}
 use Rattle.voice_model.specs.Step.{refusal, conditions, first_of, when, if_unknown, if_taken, if_spent, if_long, if_many, is_bad_note, last_rope, most_samples, most_pieces}
 use Rattle.voice_model.specs.Tapes.{taken}
 use Rattle.voice_model.specs.Spelling.{is_note, is_moment}
@@ -31,6 +32,13 @@ pub all_none : (os : List (Option Why)) → first_of os ≡ None → AllNone os
 all_none [] h = tt
 all_none (None ∷ os) h = (refl, all_none os h)
 all_none (Some reason ∷ os) h = cc
+
+-- so no condition before the last holds either
+pub early_none : (os : List (Option Why)) → first_of os ≡ None → first_of (all_but_last os) ≡ None
+early_none [] h = refl
+early_none (o ∷ []) h = refl
+early_none (None ∷ p ∷ os) h = early_none (p ∷ os) h
+early_none (Some reason ∷ p ∷ os) h = cc
 
 pub not_when : (b : Bool) (reason : Why) → when b reason ≡ None → b ≡ false
 not_when true reason h = cc
@@ -178,32 +186,33 @@ taking_short lane h (Some bytes) e k = k.0
 
 -- ---- each call
 
-pub fit_call : (s : State) (tapes : List (List ℕ)) (call : Call) → IsState s → InRange call → refusal s tapes call ≡ None → MayFit s.form s.kept (effect_of s tapes call)
-fit_call s tapes (calls.Record take) h range free =
-    let c = all_none (conditions s tapes (calls.Record take)) free in
+-- what is refused by the last condition alone may be done as well
+pub fit_early : (s : State) (tapes : List (List ℕ)) (call : Call) → IsState s → InRange call → first_of (all_but_last (conditions s tapes call)) ≡ None → MayFit s.form s.kept (effect_of s tapes call)
+fit_early s tapes (calls.Record take) h range free =
+    let c = all_none (all_but_last (conditions s tapes (calls.Record take))) free in
     next_recording s.kept (taken tapes take) (number_left s c.1.0) (not_long _ c.0)
-fit_call s tapes (calls.Concat ids) h range free =
-    let c = all_none (conditions s tapes (calls.Concat ids)) free in
+fit_early s tapes (calls.Concat ids) h range free =
+    let c = all_none (all_but_last (conditions s tapes (calls.Concat ids))) free in
     let made = joined s.ropes ids in
     next_edit s.kept made (number_left s c.1.1.1.0) (not_long (length made) c.1.0) (not_many (length (pieces_in made)) c.1.1.0)
-fit_call s tapes (calls.Sub id start len) h range free =
-    let c = all_none (conditions s tapes (calls.Sub id start len)) free in
+fit_early s tapes (calls.Sub id start len) h range free =
+    let c = all_none (all_but_last (conditions s tapes (calls.Sub id start len))) free in
     let whole = rope_limits s.form s.kept id h.kept in
     let most = whole.0 in
     let pieces = whole.1 in
     let shorter = shorter_slice (samples_of s.ropes id) start len in
     let fewer = fewer_pieces (samples_of s.ropes id) start len in
     next_edit s.kept (slice (samples_of s.ropes id) start len) (number_left s c.1.1.0) (omega (arith, most, shorter)) (omega (arith, pieces, fewer))
-fit_call s tapes (calls.Replace id start len with) h range free =
-    let c = all_none (conditions s tapes (calls.Replace id start len with)) free in
+fit_early s tapes (calls.Replace id start len with) h range free =
+    let c = all_none (all_but_last (conditions s tapes (calls.Replace id start len with))) free in
     let made = replaced (samples_of s.ropes id) start len (samples_of s.ropes with) in
     next_edit s.kept made (number_left s c.1.1.1.1.0) (not_long (length made) c.1.1.0) (not_many (length (pieces_in made)) c.1.1.1.0)
-fit_call s tapes (calls.End lane) h range free =
-    let c = all_none (conditions s tapes (calls.End lane)) free in
+fit_early s tapes (calls.End lane) h range free =
+    let c = all_none (all_but_last (conditions s tapes (calls.End lane))) free in
     let here = every_at IsLane s.lanes lane quiet_lane quiet h.lanes in
     next_recording s.kept (taking_of s lane) (number_left s c.1.1.0) (taking_short (lane_at s lane) here (lane_at s lane).taking refl here.taking)
-fit_call s tapes (calls.Retain class key id note) h range free =
-    let c = all_none (conditions s tapes (calls.Retain class key id note)) free in (
+fit_early s tapes (calls.Retain class key id note) h range free =
+    let c = all_none (all_but_last (conditions s tapes (calls.Retain class key id note))) free in (
       record {
         key = range.0;
         note = note_fits class note range.1 (not_when (is_bad_note class note) why.BadData c.1.0);
@@ -211,17 +220,20 @@ fit_call s tapes (calls.Retain class key id note) h range free =
       },
       untaken (row_at s.rows class key) c.1.1.0,
     )
-fit_call s tapes (calls.Forget class key) h range free = tt
-fit_call s tapes (calls.Census keys) h range free = counted_fits s.form s.kept (unlisted_keys s.rows keys) (unlisted_keys s.rows keys)
-fit_call s tapes (calls.Advance moment) h range free = later_fits s.form s.kept moment (nat_lt s.moment moment) range (λ e. let later = ltb-true s.moment moment e in omega (arith, later))
-fit_call s tapes (calls.Sweep limit) h range free = any_fits s.form s.kept (expired_rows s.kept) (swept_ropes s.form s.kept limit) (swept_free s.form s.kept limit)
-fit_call s tapes (calls.Length id) h range free = tt
-fit_call s tapes (calls.Describe id) h range free = tt
-fit_call s tapes (calls.Levels id) h range free = tt
-fit_call s tapes (calls.Play lane id start len) h range free = tt
-fit_call s tapes (calls.Feed lane back) h range free = tt
-fit_call s tapes (calls.Stop lane) h range free = tt
-fit_call s tapes (calls.Lookup class key) h range free = tt
-fit_call s tapes calls.Landed h range free = tt
-fit_call s tapes (calls.Begin lane) h range free = tt
-fit_call s tapes (calls.Add lane take) h range free = tt
+fit_early s tapes (calls.Forget class key) h range free = tt
+fit_early s tapes (calls.Census keys) h range free = counted_fits s.form s.kept (unlisted_keys s.rows keys) (unlisted_keys s.rows keys)
+fit_early s tapes (calls.Advance moment) h range free = later_fits s.form s.kept moment (nat_lt s.moment moment) range (λ e. let later = ltb-true s.moment moment e in omega (arith, later))
+fit_early s tapes (calls.Sweep limit) h range free = any_fits s.form s.kept (expired_rows s.kept) (swept_ropes s.form s.kept limit) (swept_free s.form s.kept limit)
+fit_early s tapes (calls.Length id) h range free = tt
+fit_early s tapes (calls.Describe id) h range free = tt
+fit_early s tapes (calls.Levels id) h range free = tt
+fit_early s tapes (calls.Play lane id start len) h range free = tt
+fit_early s tapes (calls.Feed lane back) h range free = tt
+fit_early s tapes (calls.Stop lane) h range free = tt
+fit_early s tapes (calls.Lookup class key) h range free = tt
+fit_early s tapes calls.Landed h range free = tt
+fit_early s tapes (calls.Begin lane) h range free = tt
+fit_early s tapes (calls.Add lane take) h range free = tt
+
+pub fit_call : (s : State) (tapes : List (List ℕ)) (call : Call) → IsState s → InRange call → refusal s tapes call ≡ None → MayFit s.form s.kept (effect_of s tapes call)
+fit_call s tapes call h range free = fit_early s tapes call h range (early_none (conditions s tapes call) free)

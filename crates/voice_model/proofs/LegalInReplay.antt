@@ -14,10 +14,11 @@ use Rattle.voice_model.specs.Room.{pair_of, pairs_of}
 use Rattle.voice_model.specs.Changes.{effect_of, changed, without_expired, is_expired, swept_ropes, expired_rows, is_due, if_any, rows_left, unlisted_keys, is_unlisted, unless_empty}
 use Rattle.voice_model.specs.Replay.{Rebuilt, is_legal, may_be_recorded, may_go, used_pairs, each_listed, live_by, durable_by, effect_by, Placed, placed_from, acted, after_effect, brings}
 use Rattle.voice_model.specs.Base.{change_of, IsMade}
-use Rattle.voice_model.specs.Step.{refusal, conditions, if_missing}
+use Rattle.voice_model.specs.Early.{all_but_last}
+use Rattle.voice_model.specs.Step.{refusal, conditions, first_of, if_missing}
 use Rattle.voice_model.specs.Valid.{Every, IsFit, IsState, Once, IsTimely, MayBeTimely, TakesFree, live_pairs_of}
 use Rattle.voice_model.proofs.KeptByChanges.{every-imply, every-filter, once_filter}
-use Rattle.voice_model.proofs.FitsOfCalls.{all_none, every_take, every_passed}
+use Rattle.voice_model.proofs.FitsOfCalls.{all_none, early_none, every_take, every_passed}
 use Rattle.voice_model.proofs.ChangesOfEffects.{brings_again}
 use Rattle.voice_model.proofs.Alike.{changed-by}
 use Rattle.voice_model.proofs.UsedByEdits.{Within, within_joined, within_live, within_slice, within_trans, within_replaced}
@@ -291,27 +292,31 @@ listed_some n rows census once =
 listed_each : (rows : List Row) (census : List (List ℕ)) → Once rows → each_listed rows (unlisted_keys rows census) ≡ true
 listed_each rows census once = listed_some 65535 rows census once
 
-pub timely_call : (s : State) (tapes : List (List ℕ)) (call : Call) → IsState s → refusal s tapes call ≡ None → MayBeTimely s.form s.kept (effect_of s tapes call)
-timely_call s tapes (calls.Record take) h free = tt
-timely_call s tapes (calls.Concat ids) h free = all_within s.shape.block (joined s.ropes ids) (flat_map (λ rope. rope.samples) s.ropes) (within_joined s.shape.block s.ropes ids)
-timely_call s tapes (calls.Sub id start len) h free =
+-- what is refused by the last condition alone is timely as well
+pub timely_early : (s : State) (tapes : List (List ℕ)) (call : Call) → IsState s → first_of (all_but_last (conditions s tapes call)) ≡ None → MayBeTimely s.form s.kept (effect_of s tapes call)
+timely_early s tapes (calls.Record take) h free = tt
+timely_early s tapes (calls.Concat ids) h free = all_within s.shape.block (joined s.ropes ids) (flat_map (λ rope. rope.samples) s.ropes) (within_joined s.shape.block s.ropes ids)
+timely_early s tapes (calls.Sub id start len) h free =
     all_within s.shape.block (slice (samples_of s.ropes id) start len) (flat_map (λ rope. rope.samples) s.ropes)
     (within_trans s.shape.block _ _ _ (within_slice s.shape.block (samples_of s.ropes id) start len) (within_live s.shape.block s.ropes id))
-timely_call s tapes (calls.Replace id start len with) h free =
+timely_early s tapes (calls.Replace id start len with) h free =
     all_within s.shape.block (replaced (samples_of s.ropes id) start len (samples_of s.ropes with)) (flat_map (λ rope. rope.samples) s.ropes) (within_replaced s.shape.block s.ropes id start len with)
-timely_call s tapes (calls.End lane) h free = tt
-timely_call s tapes (calls.Retain class key id note) h free = tt
-timely_call s tapes (calls.Forget class key) h free = let c = all_none (conditions s tapes (calls.Forget class key)) free in is_there (row_at s.rows class key) c.0
-timely_call s tapes (calls.Census keys) h free = counted_timely s.form s.kept (unlisted_keys s.rows keys) (listed_each s.rows keys h.kept.once)
-timely_call s tapes (calls.Advance moment) h free = later_timely s.form s.kept moment (nat_lt s.moment moment) (λ e. ltb-true s.moment moment e)
-timely_call s tapes (calls.Sweep limit) h free = any_timely s.form s.kept (expired_rows s.kept) (swept_ropes s.form s.kept limit) (swept_live s.form s.kept limit)
-timely_call s tapes (calls.Length id) h free = tt
-timely_call s tapes (calls.Describe id) h free = tt
-timely_call s tapes (calls.Levels id) h free = tt
-timely_call s tapes (calls.Play lane id start len) h free = tt
-timely_call s tapes (calls.Feed lane back) h free = tt
-timely_call s tapes (calls.Stop lane) h free = tt
-timely_call s tapes (calls.Lookup class key) h free = tt
-timely_call s tapes calls.Landed h free = tt
-timely_call s tapes (calls.Begin lane) h free = tt
-timely_call s tapes (calls.Add lane take) h free = tt
+timely_early s tapes (calls.End lane) h free = tt
+timely_early s tapes (calls.Retain class key id note) h free = tt
+timely_early s tapes (calls.Forget class key) h free = let c = all_none (all_but_last (conditions s tapes (calls.Forget class key))) free in is_there (row_at s.rows class key) c.0
+timely_early s tapes (calls.Census keys) h free = counted_timely s.form s.kept (unlisted_keys s.rows keys) (listed_each s.rows keys h.kept.once)
+timely_early s tapes (calls.Advance moment) h free = later_timely s.form s.kept moment (nat_lt s.moment moment) (λ e. ltb-true s.moment moment e)
+timely_early s tapes (calls.Sweep limit) h free = any_timely s.form s.kept (expired_rows s.kept) (swept_ropes s.form s.kept limit) (swept_live s.form s.kept limit)
+timely_early s tapes (calls.Length id) h free = tt
+timely_early s tapes (calls.Describe id) h free = tt
+timely_early s tapes (calls.Levels id) h free = tt
+timely_early s tapes (calls.Play lane id start len) h free = tt
+timely_early s tapes (calls.Feed lane back) h free = tt
+timely_early s tapes (calls.Stop lane) h free = tt
+timely_early s tapes (calls.Lookup class key) h free = tt
+timely_early s tapes calls.Landed h free = tt
+timely_early s tapes (calls.Begin lane) h free = tt
+timely_early s tapes (calls.Add lane take) h free = tt
+
+pub timely_call : (s : State) (tapes : List (List ℕ)) (call : Call) → IsState s → refusal s tapes call ≡ None → MayBeTimely s.form s.kept (effect_of s tapes call)
+timely_call s tapes call h free = timely_early s tapes call h (early_none (conditions s tapes call) free)
