@@ -66,6 +66,12 @@ module _ {X : Type 0} where
       ∙ sym (remove_in (flat (take i cs)) (get_or cs i []) (flat (drop (suc i) cs)) k place stands.1 stands.2)
       ∙ ap (λ l. remove l k) (sym (flat-at cs i stands.0))
 
+  pub remove-behind : (xs : List X) (k : ℕ) → length xs ≤ k → remove xs k ≡ xs
+  remove-behind [] zero h = refl
+  remove-behind [] (suc k) h = refl
+  remove-behind (x ∷ xs) zero h = absurd (omega (arith, h))
+  remove-behind (x ∷ xs) (suc k) h = ap (λ l. x ∷ l) (remove-behind xs k (omega (arith, h)))
+
   -- ---- the k-th value
 
   get-right : (a b : List X) (k n : ℕ) → n ≡ length a + k → slice_get (a ++ b) n ≡ slice_get b k

@@ -1,10 +1,11 @@
 -- A search over chunks: what lies in front of it passes, what lies behind it does not.
-use Rattle.std.proofs.Common.{◌≡◌, ℕ, suc, zero, Bool, true, false, None, inl, inr, ◌⊎◌, ◌+◌, ◌-◌, ◌<◌, ◌≤◌, length, List, [], ◌∷◌, ◌++◌, take, drop, get_or, Some, slice_get, refl, ap, sym, ◌∙◌, arith, length-append}
+use Rattle.std.proofs.Common.{◌≡◌, ℕ, suc, zero, Bool, true, false, cond, Option, None, inl, inr, ◌⊎◌, ◌+◌, ◌-◌, ◌<◌, ◌≤◌, length, List, [], ◌∷◌, ◌++◌, take, drop, get_or, Some, slice_get, refl, ap, sym, ◌∙◌, arith, length-append}
 use denote.Param.Members.{Mut}
+use Rattle.std.specs.Option.{IfNone}
 use Rattle.std.specs.Fn.{Called, AlwaysReturns}
 use Rattle.std.specs.List.{AllWithin}
 use Rattle.std.specs.List.Sorted.{IsPartitionedBy, IsPartitionPoint}
-use Rattle.counted_row.specs.Row.{flat, IsDense, Stands}
+use Rattle.counted_row.specs.Row.{flat, IsDense, Stands, passing}
 use Rattle.counted_row.proofs.Flat.{flat-at, flat-take_more, stands-within}
 
 -- how many values the chunks in front of one have
@@ -15,6 +16,11 @@ start cs i = length (flat (take i cs))
 pub record Halved {X : Type 0} (p : X → Bool) (xs : List X) (low high : ℕ) : Type 0 where
   pub front : AllWithin (λ y. p y ≡ true) xs 0 low
   pub behind : AllWithin (λ y. p y ≡ false) xs high (length xs)
+
+-- what follows from what a clause says where there is no value
+pub none_then : {X P Q : Type 0} (r : Option X) → IfNone r P → (P → Q) → IfNone r Q
+none_then None h f = f h
+none_then (Some x) h f = tt
 
 cases : (m n : ℕ) → (m < n) ⊎ (n ≤ m)
 cases m zero = inr (omega arith)
@@ -94,12 +100,39 @@ module _ {X : Type 0} where
   start-rises (c ∷ cs) (suc m) zero le = absurd (omega (arith, le))
   start-rises (c ∷ cs) (suc m) (suc n) le = omega (arith, start-rises cs m n (omega (arith, le)), length-append c (flat (take m cs)), length-append c (flat (take n cs)))
 
+  -- an empty chunk is the last one
+  last-one : (cs : List (List X)) (m : ℕ) → IsDense cs → length (get_or cs m []) ≡ 0 → length cs ≤ suc m
+  last-one [] m dense e = omega arith
+  last-one (c ∷ []) m dense e = omega arith
+  last-one (c ∷ d ∷ cs) zero dense e = absurd (omega (arith, dense.0 (omega arith), e))
+  last-one (c ∷ d ∷ cs) (suc m) dense e = omega (arith, last-one (d ∷ cs) m dense.1 e)
+
+  -- behind the values of a chunk: the next one, or the end
+  pub end-next : (cs : List (List X)) (i place : ℕ) → i + 1 < length cs → 0 < length (get_or cs (i + 1) []) → place ≡ length (get_or cs i []) → Stands cs (i + 1) 0 (start cs i + place)
+  end-next cs i place h some is = (h, some, omega (arith, start-more cs i (omega (arith, h)), is))
+
+  pub end-last : (cs : List (List X)) (i place : ℕ) → i < length cs → length cs ≤ i + 1 → place ≡ length (get_or cs i []) → start cs i + place ≡ length (flat cs)
+  end-last cs i place h last is = omega (arith, start-more cs i h, start-all cs (i + 1) last, is)
+
+  pub end-empty : (cs : List (List X)) (i place : ℕ) → i + 1 < length cs → IsDense cs → length (get_or cs (i + 1) []) ≡ 0 → place ≡ length (get_or cs i []) → start cs i + place ≡ length (flat cs)
+  end-empty cs i place h dense none is =
+      let last : length cs ≤ (i + 1) + 1 = omega (arith, last-one cs (i + 1) dense none) in
+      omega (arith, start-more cs i (omega (arith, h)), start-more cs (i + 1) h, start-all cs ((i + 1) + 1) last, none, is)
+
+  -- how many pass, where a search says so
+  pub passing-point : (p : X → Bool) (xs : List X) (n : ℕ) → n ≤ length xs → IsPartitionPoint (λ y. p y ≡ true) (λ y. p y ≡ false) xs n → n ≡ passing p xs
+  passing-point p [] n within point = omega (arith, within)
+  passing-point p (x ∷ xs) zero within point = sym (ap (λ b. cond b (suc (passing p xs)) 0) (point.1 0 x (omega arith) (omega arith)))
+  passing-point p (x ∷ xs) (suc n) within point =
+      let rest : n ≡ passing p xs = passing-point p xs n (omega (arith, within)) (λ k d low high. point.0 (suc k) d (omega (arith, low)) (omega (arith, high)), λ k d low high. point.1 (suc k) d (omega (arith, low)) (omega (arith, high))) in
+      ap suc rest ∙ sym (ap (λ b. cond b (suc (passing p xs)) 0) (point.0 0 x (omega arith) (omega arith)))
+
   module _ (p : X → Bool) where
     unhalved : (xs : List X) (n : ℕ) → length xs ≤ n → Halved p xs 0 n
     unhalved xs n h = record { front = λ k d a b. absurd (omega (arith, b)); behind = λ k d a b. absurd (omega (arith, a, b, h)) }
 
-    passing : (xs : List X) (low high m : ℕ) → IsPartitionedBy p xs → m < length xs → ((d : X) → p (get_or xs m d) ≡ true) → Halved p xs low high → Halved p xs m high
-    passing xs low high m parts within at halved = record { front = λ k d a b. parts k m d (omega (arith, b)) within (at d); behind = halved.behind }
+    passes_at : (xs : List X) (low high m : ℕ) → IsPartitionedBy p xs → m < length xs → ((d : X) → p (get_or xs m d) ≡ true) → Halved p xs low high → Halved p xs m high
+    passes_at xs low high m parts within at halved = record { front = λ k d a b. parts k m d (omega (arith, b)) within (at d); behind = halved.behind }
 
     failing : (xs : List X) (low high m : ℕ) → IsPartitionedBy p xs → ((d : X) → p (get_or xs m d) ≡ false) → Halved p xs low high → Halved p xs low m
     failing xs low high m parts at halved = record {
@@ -114,7 +147,7 @@ module _ {X : Type 0} where
     pub chunk-passes : (cs : List (List X)) (low high m : ℕ) (v : X) → m < length cs → slice_get (get_or cs m []) 0 ≡ Some v → p v ≡ true → IsPartitionedBy p (flat cs) → Halved p (flat cs) low high → Halved p (flat cs) (start cs m) high
     chunk-passes cs low high m v h first passes parts halved =
         let stands : Stands cs m 0 (start cs m) = (h, some-within (get_or cs m []) v first, omega arith) in
-        passing (flat cs) low high (start cs m) parts (stands-within cs m 0 (start cs m) stands)
+        passes_at (flat cs) low high (start cs m) parts (stands-within cs m 0 (start cs m) stands)
         (λ d. ap p (flat-or cs m 0 (start cs m) d stands ∙ get-or (get_or cs m []) 0 v d first) ∙ passes) halved
 
     pub chunk-fails : (cs : List (List X)) (low high m : ℕ) (v : X) → m < length cs → slice_get (get_or cs m []) 0 ≡ Some v → p v ≡ false → IsPartitionedBy p (flat cs) → Halved p (flat cs) low high → Halved p (flat cs) low (start cs m)
@@ -131,12 +164,7 @@ module _ {X : Type 0} where
         record {
           front = halved.front;
           behind = λ k d a b. absurd (omega (arith, a, b, empty, flat-take_more cs m h, start-all cs (suc m) last));
-        } where
-          last-one : (cs : List (List X)) (m : ℕ) → IsDense cs → length (get_or cs m []) ≡ 0 → length cs ≤ suc m
-          last-one [] m dense e = omega arith
-          last-one (c ∷ []) m dense e = omega arith
-          last-one (c ∷ d ∷ cs) zero dense e = absurd (omega (arith, dense.0 (omega arith), e))
-          last-one (c ∷ d ∷ cs) (suc m) dense e = omega (arith, last-one (d ∷ cs) m dense.1 e)
+        }
 
     -- what fails from one chunk on fails from each later one on
     raised : (cs : List (List X)) (low m n : ℕ) → m ≤ n → Halved p (flat cs) low (start cs m) → Halved p (flat cs) low (start cs n)

@@ -5,7 +5,9 @@
 --     AreEmpty each chunk is empty
 --     room_of  how many values so many chunks hold for certain
 --     IsRow    the parts of a row fit together
-use Rattle.std.specs.Prelude.{◌≡◌, ℕ, ◌+◌, ◌*◌, ◌^◌, ◌<◌, ◌≤◌, min, List, [], ◌∷◌, ◌++◌, length, take, slice_index_or, refl}
+--     Stands   the k-th value stands at a place of a chunk
+--     passing  how many values in front pass a test
+use Rattle.std.specs.Prelude.{◌≡◌, ℕ, ◌+◌, ◌*◌, ◌^◌, ◌<◌, ◌≤◌, min, suc, Bool, cond, List, [], ◌∷◌, ◌++◌, length, take, slice_index_or, refl}
 use Rattle.std.specs.Coded.{Coded, code_by, coded×, coded_list, coded_ℕ}
 
 pub record Row (X : Type 0) : Type 0 where
@@ -46,3 +48,8 @@ pub record IsRow {X : Type 0} (chunks : List (List X)) (chunk_room : ℕ) (stock
 -- the k-th value stands at this place of this chunk
 abbrev pub Stands : {X : Type 0} → List (List X) → ℕ → ℕ → ℕ → Type 0
 Stands cs i place k = (i < length cs) × (place < length (slice_index_or cs i [])) × (k ≡ length (flat (take i cs)) + place)
+
+-- how many values in front pass a test
+abbrev pub passing : {X : Type 0} → (X → Bool) → List X → ℕ
+passing p [] = 0
+passing p (x ∷ xs) = cond (p x) (suc (passing p xs)) 0

@@ -1,14 +1,14 @@
 //! The row, and how its chunks are kept half full.
 
-ghost use Rattle.std.specs.Prelude.{◌≡◌, ℕ, List, ◌+◌, ◌-◌, ◌*◌, ◌^◌, ◌<◌, ◌≤◌, [], ◌∷◌, ◌++◌, length, take, drop, slice_get, slice_set, slice_index_or, insert, remove, option_copied, IfSome, OnSome, IfNone, IfOk, OnOk, OnErr, IsOk, min};
+ghost use Rattle.std.specs.Prelude.{◌≡◌, ℕ, List, ◌+◌, ◌-◌, ◌*◌, ◌^◌, ◌<◌, ◌≤◌, [], ◌∷◌, ◌++◌, length, take, drop, slice_get, slice_set, slice_index_or, insert, remove, option_copied, IfSome, OnSome, IfNone, IfOk, OnOk, OnErr, IsOk, Some, min};
 ghost use Rattle.std.specs.Prelude.{Bool, true, false};
 ghost use Rattle.std.specs.Fn.{ComputesKey};
 ghost use Rattle.std.specs.List.Sorted.{IsPartitionedBy, IsPartitionPoint};
 ghost use Rattle.std.specs.Vec.{vec_capacity};
-ghost use Rattle.counted_row.specs.Row.{flat, IsDense, AreEmpty, Stands, room_of};
+ghost use Rattle.counted_row.specs.Row.{flat, IsDense, AreEmpty, Stands, passing, room_of};
 
 use crate::chunk::{CHUNK, Chunk, HALF};
-use crate::search::point_in;
+use crate::search::{first_failing, point_in};
 use crate::steps::{
     Spot, borrow_at, exchange, fill_stock, merge_at, open_last, put_in, split_at, spot_of, take_out,
 };
@@ -107,6 +107,70 @@ fn open_up<T: Drop>(chunks: &mut Vec<Chunk<T>>, stock: &mut Vec<Chunk<T>>, spot:
     }
 }
 
+/// The value of a place.
+fn value_at<'a, T: Drop>(chunks: &'a Vec<Chunk<T>>, spot: &Spot) -> Option<&'a T>
+    requires { Stands chunks.now.items spot.now.chunk spot.now.place (length (flat (take spot.now.chunk chunks.now.items)) + spot.now.place) }
+    ensures { option_copied result ≡ slice_get (flat chunks.now.items) (length (flat (take spot.now.chunk chunks.now.items)) + spot.now.place) }
+{
+    chunks[spot.chunk].get(spot.place)
+}
+
+/// Takes out the value of a place, of `len` values.
+fn take_at<T: Drop>(
+    chunks: &mut Vec<Chunk<T>>,
+    stock: &mut Vec<Chunk<T>>,
+    len: &mut usize,
+    spot: &Spot,
+) -> T
+    requires stands { Stands chunks.old.items spot.now.chunk spot.now.place (length (flat (take spot.now.chunk chunks.old.items)) + spot.now.place) }
+    requires len { len.old ≡ length (flat chunks.old.items) }
+    requires dense { IsDense chunks.old.items }
+    requires empty { AreEmpty stock.old.items }
+    requires room { length chunks.old.items + length stock.old.items ≤ vec_capacity stock.old }
+    ensures value { Some result ≡ slice_get (flat chunks.old.items) (length (flat (take spot.now.chunk chunks.old.items)) + spot.now.place) }
+    ensures values { flat chunks.new.items ≡ remove (flat chunks.old.items) (length (flat (take spot.now.chunk chunks.old.items)) + spot.now.place) }
+    ensures len { len.new ≡ length (flat chunks.new.items) }
+    ensures shorter { len.new + 1 ≡ len.old }
+    ensures dense { IsDense chunks.new.items }
+    ensures empty { AreEmpty stock.new.items }
+    ensures count { length chunks.new.items + length stock.new.items ≡ length chunks.old.items + length stock.old.items }
+    ensures chunk_room { vec_capacity chunks.new ≡ vec_capacity chunks.old }
+    ensures stock_room { vec_capacity stock.old ≤ vec_capacity stock.new }
+{
+    fill_up(chunks, stock, spot.chunk);
+    *len -= 1;
+    take_out(chunks, spot.chunk, spot.place)
+}
+
+/// Puts a value in front of that of a place, of `len` values.
+fn put_at<T: Drop>(
+    chunks: &mut Vec<Chunk<T>>,
+    stock: &mut Vec<Chunk<T>>,
+    len: &mut usize,
+    spot: &Spot,
+    value: T,
+)
+    requires stands { Stands chunks.old.items spot.now.chunk spot.now.place (length (flat (take spot.now.chunk chunks.old.items)) + spot.now.place) }
+    requires len { len.old ≡ length (flat chunks.old.items) }
+    requires few { len.old < 2 ^ 48 }
+    requires dense { IsDense chunks.old.items }
+    requires empty { AreEmpty stock.old.items }
+    requires stock { length (flat chunks.old.items) < 128 * (length chunks.old.items + length stock.old.items) }
+    requires room { length chunks.old.items + length stock.old.items ≤ vec_capacity chunks.old }
+    ensures values { flat chunks.new.items ≡ insert (flat chunks.old.items) (length (flat (take spot.now.chunk chunks.old.items)) + spot.now.place) value }
+    ensures len { len.new ≡ length (flat chunks.new.items) }
+    ensures longer { len.new ≡ len.old + 1 }
+    ensures dense { IsDense chunks.new.items }
+    ensures empty { AreEmpty stock.new.items }
+    ensures count { length chunks.new.items + length stock.new.items ≡ length chunks.old.items + length stock.old.items }
+    ensures chunk_room { vec_capacity chunks.old ≤ vec_capacity chunks.new }
+    ensures stock_room { vec_capacity stock.new ≡ vec_capacity stock.old }
+{
+    let spot = open_up(chunks, stock, spot);
+    put_in(chunks, spot.chunk, spot.place, value);
+    *len += 1;
+}
+
 /// Sees to it that the last chunk has room for one value.
 fn open_end<T: Drop>(chunks: &mut Vec<Chunk<T>>, stock: &mut Vec<Chunk<T>>)
     requires dense { IsDense chunks.old.items }
@@ -185,7 +249,7 @@ impl<T: Drop> CountedRow<T> {
         let Some(spot) = spot_of(&self.chunks, self.len, k) else {
             return None;
         };
-        self.chunks[spot.chunk].get(spot.place)
+        value_at(&self.chunks, &spot)
     }
 
     /// How many values in front pass a test, where none passes it behind one that fails it. It looks at the first values of chunks, and then into one chunk.
@@ -195,6 +259,17 @@ impl<T: Drop> CountedRow<T> {
         ensures partitioned { (p : T → Bool) → ComputesKey P.FnMut p pred → IsPartitionedBy p self.now.items → IsPartitionPoint (λ y. p y ≡ true) (λ y. p y ≡ false) self.now.items result }
     {
         point_in(&self.chunks, self.len, pred)
+    }
+
+    /// The first value that fails a test, where none passes it behind one that fails it. No place is counted: what it costs does not grow with the values but for the search.
+    pub fn at_point<P: FnMut(&T) -> bool>(&self, pred: P) -> Option<&T>
+        requires { P.IsAlwaysCallable pred }
+        ensures { (p : T → Bool) → ComputesKey P.FnMut p pred → IsPartitionedBy p self.now.items → option_copied result ≡ slice_get self.now.items (passing p self.now.items) }
+    {
+        let Some(spot) = first_failing(&self.chunks, pred) else {
+            return None;
+        };
+        value_at(&self.chunks, &spot)
     }
 
     /// Values that lie side by side from the k-th on, at least one, if there is a k-th. Runs that follow one another go over all values in order.
@@ -232,9 +307,22 @@ impl<T: Drop> CountedRow<T> {
         let Some(spot) = spot_of(&self.chunks, self.len, k) else {
             return None;
         };
-        fill_up(&mut self.chunks, &mut self.stock, spot.chunk);
-        let value = take_out(&mut self.chunks, spot.chunk, spot.place);
-        self.len -= 1;
+        let value = take_at(&mut self.chunks, &mut self.stock, &mut self.len, &spot);
+        Some(value)
+    }
+
+    /// Takes out the first value that fails a test, where none passes it behind one that fails it, if one fails it. It takes no memory.
+    pub fn remove_at_point<P: FnMut(&T) -> bool>(&mut self, pred: P) -> Option<T>
+        requires { P.IsAlwaysCallable pred }
+        ensures value { (p : T → Bool) → ComputesKey P.FnMut p pred → IsPartitionedBy p self.old.items → result ≡ slice_get self.old.items (passing p self.old.items) }
+        ensures items { (p : T → Bool) → ComputesKey P.FnMut p pred → IsPartitionedBy p self.old.items → self.new.items ≡ remove self.old.items (passing p self.old.items) }
+        ensures spare { self.old.spare ≤ self.new.spare }
+        ensures gained { OnSome result (self.new.spare ≡ self.old.spare + 1) }
+    {
+        let Some(first) = first_failing(&self.chunks, pred) else {
+            return None;
+        };
+        let value = take_at(&mut self.chunks, &mut self.stock, &mut self.len, &first);
         Some(value)
     }
 
@@ -275,9 +363,13 @@ impl<T: Drop> CountedRow<T> {
         let Some(spot) = spot_of(&self.chunks, self.len, k) else {
             return;
         };
-        let spot = open_up(&mut self.chunks, &mut self.stock, &spot);
-        put_in(&mut self.chunks, spot.chunk, spot.place, value);
-        self.len += 1;
+        put_at(
+            &mut self.chunks,
+            &mut self.stock,
+            &mut self.len,
+            &spot,
+            value,
+        );
     }
 
     /// Puts a value last. It takes no memory where there is spare room. After an error the values are as before.
@@ -310,6 +402,45 @@ impl<T: Drop> CountedRow<T> {
             return Ok(());
         }
         self.put_end(value);
+        Ok(())
+    }
+
+    // Puts a value in front of the first one that fails a test, or last, where there is room.
+    fn put_at_point<P: FnMut(&T) -> bool>(&mut self, pred: P, value: T)
+        requires room { 1 ≤ self.old.spare }
+        requires callable { P.IsAlwaysCallable pred }
+        ensures items { (p : T → Bool) → ComputesKey P.FnMut p pred → IsPartitionedBy p self.old.items → self.new.items ≡ insert self.old.items (passing p self.old.items) value }
+        ensures spare { self.old.spare ≤ self.new.spare + 1 }
+    {
+        let Some(first) = first_failing(&self.chunks, pred) else {
+            self.put_end(value);
+            return;
+        };
+        put_at(
+            &mut self.chunks,
+            &mut self.stock,
+            &mut self.len,
+            &first,
+            value,
+        );
+    }
+
+    /// Puts a value in front of the first one that fails a test, where none passes it behind one that fails it, or last. It takes no memory where there is spare room. After an error the values are as before.
+    pub fn insert_at_point<P: FnMut(&T) -> bool>(
+        &mut self,
+        pred: P,
+        value: T,
+    ) -> Result<(), AllocError>
+        requires { P.IsAlwaysCallable pred }
+        ensures ok { OnOk result ((p : T → Bool) → ComputesKey P.FnMut p pred → IsPartitionedBy p self.old.items → self.new.items ≡ insert self.old.items (passing p self.old.items) value) }
+        ensures err { OnErr result (self.new.items ≡ self.old.items) }
+        ensures room { 1 ≤ self.old.spare → IsOk result }
+        ensures spare { self.old.spare ≤ self.new.spare + 1 }
+    {
+        let Ok(()) = self.reserve(1) else {
+            return Err(AllocError);
+        };
+        self.put_at_point(pred, value);
         Ok(())
     }
 }

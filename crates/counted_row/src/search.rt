@@ -1,11 +1,12 @@
 //! The place of a row's values that a test does not pass.
 
-ghost use Rattle.std.specs.Prelude.{◌≡◌, ℕ, Bool, true, false, ◌<◌, ◌≤◌, ◌^◌, length, take};
+ghost use Rattle.std.specs.Prelude.{◌≡◌, ℕ, Bool, true, false, ◌+◌, ◌<◌, ◌≤◌, ◌^◌, [], length, take, slice_index_or, IfSome, IfNone};
 ghost use Rattle.std.specs.Fn.{ComputesKey};
 ghost use Rattle.std.specs.List.Sorted.{IsPartitionedBy, IsPartitionPoint};
-ghost use Rattle.counted_row.specs.Row.{flat, IsDense};
+ghost use Rattle.counted_row.specs.Row.{flat, IsDense, Stands, passing};
 
 use crate::chunk::Chunk;
+use crate::steps::Spot;
 
 // How many values the chunks in front of one have, counted from the first chunk on.
 fn count_before<T: Drop>(chunks: &Vec<Chunk<T>>, i: usize) -> usize
@@ -50,23 +51,16 @@ fn start_of<T: Drop>(chunks: &Vec<Chunk<T>>, len: usize, i: usize) -> usize
     count_down(chunks, len, i)
 }
 
-/// How many of `len` values in front pass a test: first over the chunks' first values, then inside one chunk.
-pub(crate) fn point_in<T: Drop, P: FnMut(&T) -> bool>(
-    chunks: &Vec<Chunk<T>>,
-    len: usize,
-    mut pred: P,
-) -> usize
+// Where the values end that pass a test: first over the chunks' first values, then inside one chunk. The place may be the end of the chunk.
+fn end_of<T: Drop, P: FnMut(&T) -> bool>(chunks: &Vec<Chunk<T>>, mut pred: P) -> Spot
     requires callable { P.IsAlwaysCallable pred }
     requires dense { IsDense chunks.now.items }
-    requires len { len ≡ length (flat chunks.now.items) }
-    requires few { length (flat chunks.now.items) < 2 ^ 63 }
-    ensures bound { result ≤ length (flat chunks.now.items) }
-    ensures partitioned { (p : T → Bool) → ComputesKey P.FnMut p pred → IsPartitionedBy p (flat chunks.now.items) → IsPartitionPoint (λ y. p y ≡ true) (λ y. p y ≡ false) (flat chunks.now.items) result }
+    requires some { 0 < length chunks.now.items }
+    ensures chunk { result.chunk < length chunks.now.items }
+    ensures place { result.place ≤ length (slice_index_or chunks.now.items result.chunk []) }
+    ensures partitioned { (p : T → Bool) → ComputesKey P.FnMut p pred → IsPartitionedBy p (flat chunks.now.items) → IsPartitionPoint (λ y. p y ≡ true) (λ y. p y ≡ false) (flat chunks.now.items) (length (flat (take result.chunk chunks.now.items)) + result.place) }
 {
     let mut size = chunks.len();
-    if size == 0 {
-        return 0;
-    }
     let mut base = 0;
     while size > 1 {
         let half = size / 2;
@@ -80,5 +74,66 @@ pub(crate) fn point_in<T: Drop, P: FnMut(&T) -> bool>(
         }
     }
     let place = chunks[base].tail(0).partition_point(pred);
-    start_of(chunks, len, base) + place
+    Spot { chunk: base, place }
+}
+
+/// How many of `len` values in front pass a test.
+pub(crate) fn point_in<T: Drop, P: FnMut(&T) -> bool>(
+    chunks: &Vec<Chunk<T>>,
+    len: usize,
+    pred: P,
+) -> usize
+    requires callable { P.IsAlwaysCallable pred }
+    requires dense { IsDense chunks.now.items }
+    requires len { len ≡ length (flat chunks.now.items) }
+    requires few { length (flat chunks.now.items) < 2 ^ 63 }
+    ensures bound { result ≤ length (flat chunks.now.items) }
+    ensures partitioned { (p : T → Bool) → ComputesKey P.FnMut p pred → IsPartitionedBy p (flat chunks.now.items) → IsPartitionPoint (λ y. p y ≡ true) (λ y. p y ≡ false) (flat chunks.now.items) result }
+{
+    if chunks.len() == 0 {
+        return 0;
+    }
+    let end = end_of(chunks, pred);
+    start_of(chunks, len, end.chunk) + end.place
+}
+
+// The value at a place of a chunk, which is the next chunk's first one at the end of the chunk.
+fn settled<T: Drop>(chunks: &Vec<Chunk<T>>, end: Spot) -> Option<Spot>
+    requires dense { IsDense chunks.now.items }
+    requires chunk { end.chunk < length chunks.now.items }
+    requires place { end.place ≤ length (slice_index_or chunks.now.items end.chunk []) }
+    ensures some { IfSome result (λ spot. Stands chunks.now.items spot.chunk spot.place (length (flat (take end.chunk chunks.now.items)) + end.place)) }
+    ensures none { IfNone result (length (flat (take end.chunk chunks.now.items)) + end.place ≡ length (flat chunks.now.items)) }
+{
+    if end.place < chunks[end.chunk].len() {
+        return Some(end);
+    }
+    let next = end.chunk + 1;
+    if next >= chunks.len() {
+        return None;
+    }
+    if chunks[next].len() == 0 {
+        return None;
+    }
+    Some(Spot {
+        chunk: next,
+        place: 0,
+    })
+}
+
+/// Where the first value stands that fails a test. No chunk's values are counted.
+pub(crate) fn first_failing<T: Drop, P: FnMut(&T) -> bool>(
+    chunks: &Vec<Chunk<T>>,
+    pred: P,
+) -> Option<Spot>
+    requires callable { P.IsAlwaysCallable pred }
+    requires dense { IsDense chunks.now.items }
+    ensures stands { IfSome result (λ spot. Stands chunks.now.items spot.chunk spot.place (length (flat (take spot.chunk chunks.now.items)) + spot.place)) }
+    ensures some { IfSome result (λ spot. (p : T → Bool) → ComputesKey P.FnMut p pred → IsPartitionedBy p (flat chunks.now.items) → length (flat (take spot.chunk chunks.now.items)) + spot.place ≡ passing p (flat chunks.now.items)) }
+    ensures none { IfNone result ((p : T → Bool) → ComputesKey P.FnMut p pred → IsPartitionedBy p (flat chunks.now.items) → passing p (flat chunks.now.items) ≡ length (flat chunks.now.items)) }
+{
+    if chunks.len() == 0 {
+        return None;
+    }
+    settled(chunks, end_of(chunks, pred))
 }

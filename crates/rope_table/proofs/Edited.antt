@@ -10,8 +10,8 @@ use Rattle.rope_table.specs.declared.ropes.Rope.{Rope}
 use Rattle.rope_table.specs.declared.dues.Due.{Due}
 use Rattle.rope_table.specs.Table.{is_sooner, is_lower, Every, IsInOrder, rope_of, with_rope, without_rope, with_due, due_of, index_of, uses_by, uses_in, pieces_in}
 use Rattle.rope_table.specs.Inside.{lies_below, place_of, IsAt}
-use Rattle.rope_table.proofs.InOrder.{split, every_put, every_imp, put_swap, length-put, Apart}
-use Rattle.rope_table.proofs.ById.{changed, map_none, without_none, none_behind, not_here, place_more, place_none, if_id, rope_at_place, lower_apart, sooner_apart, sooner_through}
+use Rattle.rope_table.proofs.InOrder.{split, place_gone, every_put, every_imp, put_swap, length-put, Apart}
+use Rattle.rope_table.proofs.ById.{changed, below_down, map_none, without_none, none_behind, not_here, place_more, place_none, if_id, rope_at_place, lower_apart, sooner_apart, sooner_through}
 
 -- ---- places
 
@@ -27,6 +27,19 @@ live_at id i ropes rope order place at same =
 -- no rope stands at the place of a number that is above all others
 pub beyond_all : (id i : ℕ) (ropes : List Rope) → IsInOrder is_lower ropes → i ≡ place_of (lies_below id) ropes → slice_get ropes i ≡ None → rope_of ropes id ≡ None
 beyond_all id i ropes order place none = rope_at_place id ropes order ∙ ap (λ k. if_id id (slice_get ropes k)) (sym place) ∙ ap (if_id id) none
+
+-- the rope of a number that is live stands at the place of the number
+pub stands_if : (id : ℕ) (ropes : List Rope) → IsInOrder is_lower ropes → IsSome (rope_of ropes id) → IsAt ropes id (place_of (lies_below id) ropes)
+stands_if id ropes order some = by (slice_get ropes (place_of (lies_below id) ropes)) refl
+  where
+    by : (o : Option Rope) → slice_get ropes (place_of (lies_below id) ropes) ≡ o → IsAt ropes id (place_of (lies_below id) ropes)
+    by None e = absurd (false≢true (subst IsSome (beyond_all id (place_of (lies_below id) ropes) ropes order refl e) some))
+    by (Some rope) e = split (rope.id == id)
+        (λ same. live_at id (place_of (lies_below id) ropes) ropes rope order refl e (eqb-true rope.id id same))
+        (λ other. absurd (false≢true (subst IsSome (not_live id ropes rope order e (eqb-false rope.id id other)) some)))
+
+pub stands_found : (id : ℕ) (ropes : List Rope) (rope : Rope) → IsInOrder is_lower ropes → Some rope ≡ rope_of ropes id → IsAt ropes id (place_of (lies_below id) ropes)
+stands_found id ropes rope order live = stands_if id ropes order (subst IsSome live refl)
 
 pub none_stands : (id i : ℕ) (ropes : List Rope) → IsAt ropes id i → ◌≡◌ {A = Option Rope} (slice_get ropes i) None → ⊥
 none_stands id i ropes at none = false≢true (subst IsSome (sym at.found ∙ none) at.some)
@@ -81,6 +94,21 @@ without_at id (r ∷ ropes) rope order found =
 pub put_back : (id i : ℕ) (g : Rope → Rope) (ropes : List Rope) (rope : Rope) → IsInOrder is_lower ropes → IsAt ropes id i → slice_get ropes i ≡ Some rope → insert (remove ropes i) i (g rope) ≡ map (changed id g) ropes
 put_back id i g ropes rope order at e =
     ap (λ k. insert (remove ropes k) k (g rope)) at.place ∙ sym (map_at id g ropes rope order (sym at.found ∙ e))
+
+-- a rope that is taken out and put back changed, by a number that was read
+pub changed_back : (id n : ℕ) (g : Rope → Rope) (ropes mid new : List Rope) (live rope : Rope) → IsInOrder is_lower ropes → n ≡ id → Some live ≡ rope_of ropes id → Some rope ≡ slice_get ropes (place_of (lies_below n) ropes)
+    → mid ≡ remove ropes (place_of (lies_below n) ropes) → new ≡ insert mid (place_of (lies_below n) mid) (g rope) → new ≡ map (changed id g) ropes
+changed_back id n g ropes mid new live rope order same found value gone put =
+    put
+    ∙ ap (λ l. insert l (place_of (lies_below n) l) (g rope)) gone
+    ∙ ap (λ k. insert (remove ropes (place_of (lies_below n) ropes)) k (g rope)) (place_gone is_lower (lies_below n) (below_down n) ropes order)
+    ∙ ap (λ m. insert (remove ropes (place_of (lies_below m) ropes)) (place_of (lies_below m) ropes) (g rope)) same
+    ∙ put_back id (place_of (lies_below id) ropes) g ropes rope order (stands_found id ropes live order found) (ap (λ m. slice_get ropes (place_of (lies_below m) ropes)) (sym same) ∙ sym value)
+
+-- a rope that is live is taken out
+pub never_gone : (id n : ℕ) (ropes : List Rope) (live : Rope) → IsInOrder is_lower ropes → n ≡ id → Some live ≡ rope_of ropes id → ◌≡◌ {A = Option Rope} None (slice_get ropes (place_of (lies_below n) ropes)) → ⊥
+never_gone id n ropes live order same found none =
+    none_stands id (place_of (lies_below id) ropes) ropes (stands_found id ropes live order found) (ap (λ m. slice_get ropes (place_of (lies_below m) ropes)) (sym same) ∙ sym none)
 
 without_found : (id i : ℕ) (ropes : List Rope) (o : Option Rope) → IsInOrder is_lower ropes → IsAt ropes id i → rope_of ropes id ≡ o → IsSome o → remove ropes i ≡ without_rope id ropes
 without_found id i ropes None order at e some = cc

@@ -1,10 +1,14 @@
 -- Lists in order: where an element belongs, and what is left as it goes.
-use Rattle.std.proofs.Common.{◌≡◌, ℕ, zero, suc, ◌-◌, ◌<◌, ◌≤◌, List, [], ◌∷◌, length, get_or, Bool, true, false, not, cond, Some, refl, sym, ◌∙◌, ap, subst, eq-or-lt_of_le, inl, inr, arith}
+use Rattle.std.proofs.Common.{◌≡◌, ℕ, zero, suc, ◌<◌, ◌≤◌, List, [], ◌∷◌, length, get_or, Bool, true, false, not, cond, refl, sym, ◌∙◌, ap, arith}
 use Rattle.std.proofs.lemmas.Bool.{cond_both, false≢true}
-use Rattle.std.proofs.lemmas.Option.{get_or_from_slice_get, slice_get_within}
-use Rattle.std.specs.List.{slice_get, insert, remove}
-use Rattle.std.specs.List.Sorted.{IsPartitionPoint, IsPartitionedBy}
+use Rattle.std.specs.List.{insert, remove}
+use Rattle.std.specs.List.Sorted.{IsPartitionedBy}
 use Rattle.rope_table.specs.Table.{Every, IsInOrder, put_in}
+use Rattle.std.specs.Fn.{Called, ComputesKey}
+use Rattle.std.proofs.lemmas.Fn.{always_returns_same}
+use denote.Param.Members.{Mut}
+use denote.Ref.{Bor}
+use Rattle.counted_row.specs.Row.{passing}
 use Rattle.rope_table.specs.Inside.{place_of}
 
 pub split : {P : Type 0} (b : Bool) → (b ≡ true → P) → (b ≡ false → P) → P
@@ -83,6 +87,25 @@ module _ {A : Type 0} (comes : A → A → Bool) where
       (λ e. ap (remove (x ∷ y ∷ ys)) (place_here (λ z. comes z x) x (y ∷ ys) self))
       (λ e. ap (remove (y ∷ put_in comes x ys)) (place_later (λ z. comes z x) y (put_in comes x ys) (goes_behind (comes x y) (comes y x) apart.0 e)) ∙ ap (λ l. y ∷ l) (remove_put x ys self apart.1))
 
+  none_pass : (test : A → Bool) → ((x y : A) → comes x y ≡ true → test y ≡ true → test x ≡ true) → (x : A) (ys : List A) → test x ≡ false → Every (λ y. comes x y ≡ true) ys → place_of test ys ≡ 0
+  none_pass test down x [] e all = refl
+  none_pass test down x (y ∷ ys) e all = place_here test y ys (split (test y) (λ t. absurd (false≢true (sym e ∙ down x y all.0 t))) (λ t. t))
+
+  -- the place of a test stays as the element goes from it
+  pub place_gone : (test : A → Bool) → ((x y : A) → comes x y ≡ true → test y ≡ true → test x ≡ true) → (xs : List A) → IsInOrder comes xs → place_of test (remove xs (place_of test xs)) ≡ place_of test xs
+  place_gone test down [] order = refl
+  place_gone test down (x ∷ xs) order =
+      split (test x)
+      (λ e.
+      ap (λ n. place_of test (remove (x ∷ xs) n)) (place_later test x xs e)
+      ∙ place_later test x (remove xs (place_of test xs)) e
+      ∙ ap suc (place_gone test down xs order.1)
+      ∙ sym (place_later test x xs e))
+      (λ e.
+      ap (λ n. place_of test (remove (x ∷ xs) n)) (place_here test x xs e)
+      ∙ none_pass test down x xs e order.0
+      ∙ sym (place_here test x xs e))
+
   pub length-put : (x : A) (xs : List A) → length (put_in comes x xs) ≡ suc (length xs)
   length-put x [] = refl
   length-put x (y ∷ ys) =
@@ -139,12 +162,15 @@ place_of-le test (x ∷ xs) = let i = place_of-le test xs in cond_both (test x) 
 
 -- ---- halving
 
-pub at_partition : {A : Type 0} (test : A → Bool) (xs : List A) (i : ℕ) → i ≤ length xs → IsPartitionPoint (λ y. test y ≡ true) (λ y. test y ≡ false) xs i → i ≡ place_of test xs
-at_partition test [] i within h = omega arith
-at_partition test (x ∷ xs) zero within h = sym (ap (λ b. cond b (suc (place_of test xs)) 0) (h.1 0 x (omega arith) (omega arith)))
-at_partition test (x ∷ xs) (suc i) within h =
-    let rest : i ≡ place_of test xs = at_partition test xs i (omega arith) (λ k d low high. h.0 (suc k) d (omega arith) (omega arith), λ k d low high. h.1 (suc k) d (omega arith) (omega arith)) in
-    ap suc rest ∙ sym (ap (λ b. cond b (suc (place_of test xs)) 0) (h.0 0 x (omega arith) (omega arith)))
+-- a row's search ends at the place of a test
+pub passing_place : {A : Type 0} (test : A → Bool) (xs : List A) → passing test xs ≡ place_of test xs
+passing_place test [] = refl
+passing_place test (x ∷ xs) = ap (λ n. cond (test x) (suc n) 0) (passing_place test xs)
+
+-- from a clause on each test that a closure computes, where it computes this one
+pub by_clause : {A F : Type 0} {g : Mut F (Bor A × Unit {0}) Bool} {f : F} (test : A → Bool) (P : (A → Bool) → Type 0)
+    → ((q : A → Bool) → ComputesKey g q f → P q) → ((a : Bor A × Unit {0}) (r : Bool) (f' : F) → Called g f a r f' → (r ≡ test a.0.now) × (f' ≡ f)) → P test
+by_clause {g = g} {f = f} test P clause h = clause test (always_returns_same g (λ a r. r ≡ test a.0.now) f h)
 
 partitioned_at : {A : Type 0} (comes : A → A → Bool) (test : A → Bool) → ((x y : A) → comes x y ≡ true → test y ≡ true → test x ≡ true) → (x : A) (xs : List A) → IsInOrder comes (x ∷ xs) → IsPartitionedBy test xs → IsPartitionedBy test (x ∷ xs)
 partitioned_at comes test down x xs order rest zero zero d le within e = e
@@ -155,31 +181,3 @@ partitioned_at comes test down x xs order rest (suc i) (suc j) d le within e = r
 pub partitioned : {A : Type 0} (comes : A → A → Bool) (test : A → Bool) → ((x y : A) → comes x y ≡ true → test y ≡ true → test x ≡ true) → (xs : List A) → IsInOrder comes xs → IsPartitionedBy test xs
 partitioned comes test down [] order = λ i j d le within e. absurd (omega arith)
 partitioned comes test down (x ∷ xs) order = partitioned_at comes test down x xs order (partitioned comes test down xs order.1)
-
--- where the last element passes, all of them do
-pub place_behind : {A : Type 0} (comes : A → A → Bool) (test : A → Bool) → ((x y : A) → comes x y ≡ true → test y ≡ true → test x ≡ true) → (xs : List A) (n : ℕ) (x : A) → IsInOrder comes xs → n ≡ length xs → 0 < n → slice_get xs (n - 1) ≡ Some x → test x ≡ true → n ≡ place_of test xs
-place_behind comes test down xs n x order count some read passes = at_partition test xs n (omega (arith, count))
-    (λ k d low high. partitioned comes test down xs order k (n - 1) d (omega (arith, high)) (omega (arith, count, some)) (ap test (get_or_from_slice_get xs (n - 1) x d read) ∙ passes), λ k d low high. absurd (omega (arith, count, low, high)))
-
--- of two places the front one has what comes first
-pub in_order_at : {A : Type 0} (comes : A → A → Bool) (xs : List A) (j k : ℕ) (d : A) → IsInOrder comes xs → j < k → k < length xs → comes (get_or xs j d) (get_or xs k d) ≡ true
-in_order_at comes [] j k d order less within = absurd (omega arith)
-in_order_at comes (x ∷ xs) zero zero d order less within = absurd (omega arith)
-in_order_at comes (x ∷ xs) zero (suc k) d order less within = every_at (λ y. comes x y ≡ true) xs k d order.0 (omega arith)
-in_order_at comes (x ∷ xs) (suc j) zero d order less within = absurd (omega arith)
-in_order_at comes (x ∷ xs) (suc j) (suc k) d order less within = in_order_at comes xs j k d order.1 (omega arith) (omega arith)
-
-split_le : (i k : ℕ) (P : ℕ → Type 0) → i ≤ k → P i → (i < k → P k) → P k
-split_le i k P low here later = elim (eq-or-lt_of_le low) [ inl same ↦ subst P same here | inr less ↦ later less ]
-
--- an element that fails stands where those end that pass, if just those before it pass
-pub place_at : {A : Type 0} (comes : A → A → Bool) (test : A → Bool) (xs : List A) (i : ℕ) (x : A) → IsInOrder comes xs → slice_get xs i ≡ Some x → test x ≡ false
-    → ((y : A) → comes y x ≡ true → test y ≡ true) → ((y : A) → comes x y ≡ true → test y ≡ false) → i ≡ place_of test xs
-place_at comes test xs i x order read fails before behind =
-    let within : i < length xs = slice_get_within xs i x read in
-    at_partition test xs i (omega (arith, within)) (
-      λ k d low high. let at : x ≡ get_or xs i d = sym (get_or_from_slice_get xs i x d read) in
-          before (get_or xs k d) (subst (λ y. comes (get_or xs k d) y ≡ true) (sym at) (in_order_at comes xs k i d order high within)),
-      λ k d low high. let at : x ≡ get_or xs i d = sym (get_or_from_slice_get xs i x d read) in
-          split_le i k (λ m. test (get_or xs m d) ≡ false) low (ap test (sym at) ∙ fails) (λ less. behind (get_or xs k d) (subst (λ y. comes y (get_or xs k d) ≡ true) (sym at) (in_order_at comes xs i k d order less high))),
-    )

@@ -1,9 +1,9 @@
 //! The order in which ropes are due.
 
-ghost use Rattle.std.specs.Prelude.{◌≡◌, ◌<◌, ◌≤◌, [], List, not, IfOk, OnOk, IfSome, option_map, slice_get, length};
+ghost use Rattle.std.specs.Prelude.{◌≡◌, ◌<◌, ◌≤◌, [], List, not, IfOk, OnOk, option_map, slice_get, length};
 ghost use Rattle.rope_table.specs.Table.{as_pair, with_due, is_sooner, Every, IsInOrder};
 ghost use Rattle.rope_table.specs.declared.dues.Due.{Due};
-ghost use Rattle.rope_table.specs.Inside.{place_of, is_due_before};
+ghost use Rattle.rope_table.specs.Inside.{is_due_before};
 
 use crate::copies::{Duplicate, copied};
 use counted_row::CountedRow;
@@ -42,38 +42,6 @@ fn is_before(due: &Due, at: u64, id: u64) -> bool
     ensures { result ≡ is_due_before at id due.now }
 {
     due.at < at || (due.at == at && due.id.number() < id)
-}
-
-/// How many are due before a rope, where that is seen at the last one: a rope that has just become idle is mostly due last.
-fn place_at_end(dues: &CountedRow<Due>, at: u64, id: u64) -> Option<usize>
-    requires { IsInOrder is_sooner dues.now.items }
-    ensures { IfSome result (λ i. i ≡ place_of (is_due_before at id) dues.now.items) }
-{
-    let count = dues.len();
-    if count == 0 {
-        return None;
-    }
-    let Some(last) = dues.get(count - 1) else {
-        return None;
-    };
-    if is_before(last, at, id) {
-        return Some(count);
-    }
-    if last.at == at && last.id.number() == id {
-        return Some(count - 1);
-    }
-    None
-}
-
-/// How many are due before a rope.
-fn place(dues: &CountedRow<Due>, at: u64, id: u64) -> usize
-    requires { IsInOrder is_sooner dues.now.items }
-    ensures { result ≡ place_of (is_due_before at id) dues.now.items }
-{
-    if let Some(place) = place_at_end(dues, at, id) {
-        return place;
-    }
-    dues.partition_point(|due| is_before(due, at, id))
 }
 
 impl Duplicate for Due {
@@ -132,8 +100,11 @@ impl DueOrder {
         ensures dues { self.new.dues ≡ with_due due self.old.dues }
         ensures room { self.old.room ≤ self.new.room }
     {
-        let place = place(&self.dues, due.at, due.id.number());
-        let _entered = self.dues.insert(place, due);
+        let at = due.at;
+        let id = due.id.number();
+        let _entered = self
+            .dues
+            .insert_at_point(|other| is_before(other, at, id), due);
     }
 
     /// Takes out a rope that is there.
@@ -141,7 +112,8 @@ impl DueOrder {
         ensures dues { (rest : List Due) → Every (λ other. is_sooner other due ≡ not (is_sooner due other)) rest → self.old.dues ≡ with_due due rest → self.new.dues ≡ rest }
         ensures room { self.old.room ≤ self.new.room }
     {
-        let place = place(&self.dues, due.at, due.id.number());
-        let _left = self.dues.remove(place);
+        let at = due.at;
+        let id = due.id.number();
+        let _left = self.dues.remove_at_point(|other| is_before(other, at, id));
     }
 }

@@ -1,8 +1,8 @@
 //! The live ropes in rising number.
 
-ghost use Rattle.std.specs.Prelude.{◌≡◌, ◌<◌, ◌≤◌, None, IfOk, OnOk, IfSome, IfNone, length, option_copied, map, []};
+ghost use Rattle.std.specs.Prelude.{◌≡◌, ◌+◌, ◌<◌, ◌≤◌, None, IfOk, OnOk, OnSome, length, option_copied, slice_get, insert, remove, map, []};
 ghost use Rattle.rope_table.specs.Table.{rope_of, number_above, with_rope, without_rope, idled, held_back, is_lower, IsInOrder, piece_count};
-ghost use Rattle.rope_table.specs.Inside.{place_of, lies_below, is_within, IsAt};
+ghost use Rattle.rope_table.specs.Inside.{place_of, lies_below, is_within};
 
 use crate::copies::{Duplicate, copied};
 use counted_row::CountedRow;
@@ -48,52 +48,41 @@ impl Model for LiveRopes {
     ghost invariant = { λ r. AreLive r.ropes.items r.pieces };
 }
 
-/// How many ropes have a number below this one, where that takes no search: it is above the last one, or the numbers from it to the last one stand without a gap.
-fn place_at_end(ropes: &CountedRow<Rope>, id: u64) -> Option<usize>
+/// The first rope whose number is not below this one.
+fn at_or_above(ropes: &CountedRow<Rope>, id: u64) -> Option<&Rope>
     requires { IsInOrder is_lower ropes.now.items }
-    ensures { IfSome result (λ i. i ≡ place_of (lies_below id) ropes.now.items) }
+    ensures { option_copied result ≡ slice_get ropes.now.items (place_of (lies_below id) ropes.now.items) }
 {
-    let count = ropes.len();
-    if count == 0 {
-        return None;
-    }
-    let Some(rope) = ropes.get(count - 1) else {
-        return None;
-    };
-    let last = rope.id.number();
-    if last < id {
-        return Some(count);
-    }
-    if last - id >= count as u64 {
-        return None;
-    }
-    let place = count - 1 - (last - id) as usize;
-    let Some(rope) = ropes.get(place) else {
-        return None;
-    };
-    if rope.id.number() == id {
-        return Some(place);
-    }
-    None
+    ropes.at_point(|rope| rope.id.number() < id)
 }
 
-/// How many ropes have a number below this one.
-fn place(ropes: &CountedRow<Rope>, id: u64) -> usize
+/// The first rope whose number is above this one.
+fn above(ropes: &CountedRow<Rope>, id: u64) -> Option<&Rope>
     requires { IsInOrder is_lower ropes.now.items }
-    ensures { result ≡ place_of (lies_below id) ropes.now.items }
+    ensures { option_copied result ≡ slice_get ropes.now.items (place_of (is_within id) ropes.now.items) }
 {
-    if let Some(place) = place_at_end(ropes, id) {
-        return place;
-    }
-    ropes.partition_point(|rope| rope.id.number() < id)
+    ropes.at_point(|rope| rope.id.number() <= id)
 }
 
-/// How many ropes have a number up to this one.
-fn place_above(ropes: &CountedRow<Rope>, id: u64) -> usize
-    requires { IsInOrder is_lower ropes.now.items }
-    ensures { result ≡ place_of (is_within id) ropes.now.items }
+/// Takes out the first rope whose number is not below this one.
+fn take(ropes: &mut CountedRow<Rope>, id: u64) -> Option<Rope>
+    requires { IsInOrder is_lower ropes.old.items }
+    ensures value { result ≡ slice_get ropes.old.items (place_of (lies_below id) ropes.old.items) }
+    ensures items { ropes.new.items ≡ remove ropes.old.items (place_of (lies_below id) ropes.old.items) }
+    ensures spare { ropes.old.spare ≤ ropes.new.spare }
+    ensures gained { OnSome result (ropes.new.spare ≡ ropes.old.spare + 1) }
 {
-    ropes.partition_point(|rope| rope.id.number() <= id)
+    ropes.remove_at_point(|rope| rope.id.number() < id)
+}
+
+/// Puts a rope in front of the first one whose number is not below this one, where there is room.
+fn put(ropes: &mut CountedRow<Rope>, id: u64, rope: Rope)
+    requires order { IsInOrder is_lower ropes.old.items }
+    requires room { 1 ≤ ropes.old.spare }
+    ensures items { ropes.new.items ≡ insert ropes.old.items (place_of (lies_below id) ropes.old.items) rope }
+    ensures spare { ropes.old.spare ≤ ropes.new.spare + 1 }
+{
+    let _entered = ropes.insert_at_point(|other| other.id.number() < id, rope);
 }
 
 impl Duplicate for Rope {
@@ -176,17 +165,20 @@ impl LiveRopes {
     pub(crate) fn find(&self, id: RopeId) -> Option<&Rope>
         ensures { option_copied result ≡ rope_of self.now.ropes id }
     {
-        let Some(place) = self.place_of_live(id) else {
+        let Some(rope) = at_or_above(&self.ropes, id.number()) else {
             return None;
         };
-        self.ropes.get(place)
+        if rope.id.number() != id.number() {
+            return None;
+        }
+        Some(rope)
     }
 
     /// The lowest number above this one.
     pub(crate) fn after(&self, id: u64) -> Option<RopeId>
         ensures { result ≡ number_above self.now.ropes id }
     {
-        let Some(rope) = self.ropes.get(place_above(&self.ropes, id)) else {
+        let Some(rope) = above(&self.ropes, id) else {
             return None;
         };
         Some(rope.id)
@@ -199,24 +191,8 @@ impl LiveRopes {
         ensures ropes { self.new.ropes ≡ with_rope rope self.old.ropes }
         ensures room { self.old.room ≤ self.new.room }
     {
-        let place = place(&self.ropes, rope.id.number());
         self.pieces += u64::from(rope.pieces.count());
-        let _entered = self.ropes.insert(place, rope);
-    }
-
-    // The place of the rope of a number.
-    fn place_of_live(&self, id: RopeId) -> Option<usize>
-        ensures live { IfSome result (λ i. IsAt self.now.ropes id i) }
-        ensures none { IfNone result (rope_of self.now.ropes id ≡ None) }
-    {
-        let place = place(&self.ropes, id.number());
-        let Some(rope) = self.ropes.get(place) else {
-            return None;
-        };
-        if rope.id.number() != id.number() {
-            return None;
-        }
-        Some(place)
+        put(&mut self.ropes, rope.id.number(), rope);
     }
 
     /// Takes out the rope of a number.
@@ -225,10 +201,10 @@ impl LiveRopes {
         ensures ropes { self.new.ropes ≡ without_rope id self.old.ropes }
         ensures room { self.new.room ≡ self.old.room }
     {
-        let Some(place) = self.place_of_live(id) else {
+        let Some(_live) = self.find(id) else {
             return None;
         };
-        let Some(rope) = self.ropes.remove(place) else {
+        let Some(rope) = take(&mut self.ropes, id.number()) else {
             return None;
         };
         self.pieces -= u64::from(rope.pieces.count());
@@ -240,16 +216,16 @@ impl LiveRopes {
         ensures ropes { self.new.ropes ≡ map (idled id idle last wait) self.old.ropes }
         ensures room { self.old.room ≤ self.new.room }
     {
-        let Some(place) = self.place_of_live(id) else {
+        let Some(_live) = self.find(id) else {
             return;
         };
-        let Some(mut rope) = self.ropes.remove(place) else {
+        let Some(mut rope) = take(&mut self.ropes, id.number()) else {
             return;
         };
         rope.idle = idle;
         rope.last = last;
         rope.wait = wait;
-        let _entered = self.ropes.insert(place, rope);
+        put(&mut self.ropes, id.number(), rope);
     }
 
     /// Whether a row keeps the rope of a number.
@@ -257,13 +233,13 @@ impl LiveRopes {
         ensures ropes { self.new.ropes ≡ map (held_back id kept) self.old.ropes }
         ensures room { self.old.room ≤ self.new.room }
     {
-        let Some(place) = self.place_of_live(id) else {
+        let Some(_live) = self.find(id) else {
             return;
         };
-        let Some(mut rope) = self.ropes.remove(place) else {
+        let Some(mut rope) = take(&mut self.ropes, id.number()) else {
             return;
         };
         rope.kept = kept;
-        let _entered = self.ropes.insert(place, rope);
+        put(&mut self.ropes, id.number(), rope);
     }
 }

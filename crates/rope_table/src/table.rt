@@ -15,7 +15,7 @@ use std::marker::Model;
 use std::sync::ledger::Ledger;
 use voice_units::{Moment, NoMemory, RopeId, Steps};
 
-/// The live ropes. Contracts see the list of the ropes in rising number, how many of them and of the held passages use each block, and for how many more ropes and blocks there is room. Ropes lie in chunks of at most 256, so one comes or goes without moving all later ones. A rope is found by halving over the chunks and then in one of them, and where no number is missing from it to the last one, without a search; its place is counted over the chunks in front of it.
+/// The live ropes. Contracts see the list of the ropes in rising number, how many of them and of the held passages use each block, and for how many more ropes and blocks there is room. Ropes lie in chunks of at most 256, so one comes or goes without moving all later ones. A rope is found by halving over the chunks and then in one of them; its place is not counted, so no call costs more for the chunks in front of it.
 #[derive(Drop)]
 pub struct RopeTable {
     ropes: LiveRopes,

@@ -4,7 +4,7 @@ use Rattle.std.specs.Fn.{ComputesKey}
 use Rattle.std.specs.List.Sorted.{IsPartitionedBy}
 use Rattle.counted_row.specs.Row.{flat}
 use Rattle.counted_row.proofs.Points.{start, Halved}
-use Rattle.counted_row.proofs.search.point_in.Given as goal
+use Rattle.counted_row.proofs.search.end_of.Given as goal
 
 abbrev pub invariant-loop-size : goal.invariant-loop-size
 invariant-loop-size g l =
