@@ -1,6 +1,6 @@
 -- Rows go one after another.
-use Rattle.std.proofs.Common.{◌≡◌, ℕ, suc, zero, List, [], ◌∷◌, drop, filter, not, ap, ap₂, ◌∙◌, sym, refl, cond, Bool, true, false, ◌&&◌, ◌||◌, ◌==◌, Option, Some, None}
-use Rattle.std.specs.Prelude.{slice_get, remove, unwrap_or, bytes_eq}
+use Rattle.std.proofs.Common.{◌≡◌, ℕ, List, [], ◌∷◌, filter, length, ◌<◌, ◌≤◌, not, ap, ap₂, ◌∙◌, sym, refl, cond, Bool, true, false, ◌&&◌, ◌||◌, ◌==◌, Option, Some, None, arith}
+use Rattle.std.specs.Prelude.{unwrap_or, bytes_eq}
 use Rattle.std.specs.List.{list_any}
 use Rattle.voice_model.specs.State.{class_number, is_row, row_at}
 use Rattle.voice_model.specs.Valid.{Once}
@@ -8,73 +8,40 @@ use Rattle.voice_model.specs.declared.calls.Row.{Row}
 use Rattle.voice_model.specs.declared.calls.Class.{Class}
 use Rattle.interest_table.specs.Table.{is_named}
 use Rattle.interest_table.proofs.Found.{others, all_stay, is_that_row}
-use Rattle.interest_table.proofs.Added.{own_row}
 
--- ---- the row of a place
+-- ---- the row of a name
 
-some_row : (a b : Row) → Some a ≡ Some b → a ≡ b
-some_row a b h = ap (λ (o : Option Row). unwrap_or o a) h
+named_row : (a b : Row) → Some a ≡ Some b → a ≡ b
+named_row a b h = ap (λ (o : Option Row). unwrap_or o a) h
 
-stands_there : (class : Class) (key : List ℕ) (rows : List Row) (j : ℕ) (r : Row) → slice_get rows j ≡ Some r → is_row class key r ≡ true → row_at rows class key ≡ None → true ≡ false
-stands_there class key [] j r at is none = cc
-stands_there class key (x ∷ xs) zero r at is none = by (is_row class key x) (ap (is_row class key) (some_row x r at) ∙ is) none
+-- where the row of a name fails a test, the rows that pass stay when it goes
+pub fails_named : (test : Row → Bool) (class : Class) (key : List ℕ) (r : Row) (rows : List Row) → Once rows → row_at rows class key ≡ Some r → test r ≡ false → filter test (others class key rows) ≡ filter test rows
+fails_named test class key r [] once at fails = cc
+fails_named test class key r (x ∷ xs) once at fails = by (is_row class key x) refl at (fails_named test class key r xs once.1)
   where
-    by : (b : Bool) → b ≡ true → cond b (Some x) (row_at xs class key) ≡ None → true ≡ false
-    by true e k = cc
-    by false e k = sym e
-stands_there class key (x ∷ xs) (suc j) r at is none = by (is_row class key x) none (stands_there class key xs j r at is)
+    by : (b : Bool) → is_row class key x ≡ b → cond b (Some x) (row_at xs class key) ≡ Some r → (row_at xs class key ≡ Some r → test r ≡ false → filter test (others class key xs) ≡ filter test xs) → filter test (cond (not b) (x ∷ others class key xs) (others class key xs)) ≡ cond (test x) (x ∷ filter test xs) (filter test xs)
+    by true is k rest =
+        let that = is_that_row class key x is in
+        let none : row_at xs class key ≡ None = sym (ap₂ (λ c k. row_at xs c k) that.0 that.1) ∙ once.0 in
+        ap (filter test) (all_stay class key xs none) ∙ ap (λ b. cond b (x ∷ filter test xs) (filter test xs)) (sym (ap test (named_row x r k) ∙ fails))
+    by false is k rest = ap (λ l. cond (test x) (x ∷ l) l) (rest k fails)
+
+no_more : (class : Class) (key : List ℕ) (rows : List Row) → length (others class key rows) ≤ length rows
+no_more class key [] = omega arith
+no_more class key (x ∷ xs) = by (is_row class key x) (no_more class key xs)
   where
-    by : (b : Bool) → cond b (Some x) (row_at xs class key) ≡ None → (row_at xs class key ≡ None → true ≡ false) → true ≡ false
-    by true k rest = cc
-    by false k rest = rest k
+    by : (b : Bool) → length (others class key xs) ≤ length xs → length (cond (not b) (x ∷ others class key xs) (others class key xs)) ≤ length (x ∷ xs)
+    by true rest = omega (arith, rest)
+    by false rest = omega (arith, rest)
 
--- the row of a place is the only one of its name
-pub gone_at : (rows : List Row) (j : ℕ) (r : Row) → Once rows → slice_get rows j ≡ Some r → others r.class r.key rows ≡ remove rows j
-gone_at [] j r once at = cc
-gone_at (x ∷ xs) zero r once at =
-    let same : x ≡ r = some_row x r at in
-    ap (λ b. cond (not b) (x ∷ others r.class r.key xs) (others r.class r.key xs)) (ap (is_row r.class r.key) same ∙ own_row r)
-    ∙ all_stay r.class r.key xs (sym (ap (λ (y : Row). row_at xs y.class y.key) same) ∙ once.0)
-gone_at (x ∷ xs) (suc j) r once at = by (is_row r.class r.key x) refl (gone_at xs j r once.1 at)
+-- there are fewer rows once one went
+pub fewer_named : (class : Class) (key : List ℕ) (r : Row) (rows : List Row) → row_at rows class key ≡ Some r → length (others class key rows) < length rows
+fewer_named class key r [] at = cc
+fewer_named class key r (x ∷ xs) at = by (is_row class key x) at (fewer_named class key r xs)
   where
-    by : (b : Bool) → is_row r.class r.key x ≡ b → others r.class r.key xs ≡ remove xs j → cond (not b) (x ∷ others r.class r.key xs) (others r.class r.key xs) ≡ x ∷ remove xs j
-    by true is rest =
-        let that = is_that_row r.class r.key x is in
-        let none : row_at xs r.class r.key ≡ None = sym (ap₂ (λ c k. row_at xs c k) that.0 that.1) ∙ once.0 in
-        let no = stands_there r.class r.key xs j r at (own_row r) none in
-        cc
-    by false is rest = ap (λ l. x ∷ l) rest
-
--- ---- a pass from the last place on
-
-module _ (test : Row → Bool) where
-  pub fails_at : (rows : List Row) (j : ℕ) (r : Row) → slice_get rows j ≡ Some r → test r ≡ false → filter test (remove rows j) ≡ filter test rows
-  fails_at [] j r at fails = cc
-  fails_at (x ∷ xs) zero r at fails = sym (ap (λ b. cond b (x ∷ filter test xs) (filter test xs)) (ap test (some_row x r at) ∙ fails))
-  fails_at (x ∷ xs) (suc j) r at fails = ap (λ l. cond (test x) (x ∷ l) l) (fails_at xs j r at fails)
-
-  pub stays_at : (rows : List Row) (j k : ℕ) (r : Row) → k ≡ suc j → slice_get rows j ≡ Some r → test r ≡ true → filter test (drop k rows) ≡ drop k rows → filter test (drop j rows) ≡ drop j rows
-  stays_at rows j k r is at passes rest = from rows j r at passes (ap (λ n. filter test (drop n rows)) (sym is) ∙ rest ∙ ap (λ n. drop n rows) is)
-    where
-      from : (rows : List Row) (j : ℕ) (r : Row) → slice_get rows j ≡ Some r → test r ≡ true → filter test (drop (suc j) rows) ≡ drop (suc j) rows → filter test (drop j rows) ≡ drop j rows
-      from [] j r at passes rest = cc
-      from (x ∷ xs) zero r at passes rest = ap (λ b. cond b (x ∷ filter test xs) (filter test xs)) (ap test (some_row x r at) ∙ passes) ∙ ap (λ l. x ∷ l) rest
-      from (x ∷ xs) (suc j) r at passes rest = from xs j r at passes rest
-
-  pub none_at : (rows : List Row) (j : ℕ) → slice_get rows j ≡ None → filter test (drop j rows) ≡ drop j rows
-  none_at [] zero at = refl
-  none_at [] (suc j) at = refl
-  none_at (x ∷ xs) zero at = cc
-  none_at (x ∷ xs) (suc j) at = none_at xs j at
-
-pub behind_gone : (rows : List Row) (j k : ℕ) → k ≡ suc j → drop j (remove rows j) ≡ drop k rows
-behind_gone rows j k is = from rows j ∙ ap (λ n. drop n rows) (sym is)
-  where
-    from : (rows : List Row) (j : ℕ) → drop j (remove rows j) ≡ drop (suc j) rows
-    from [] zero = refl
-    from [] (suc j) = refl
-    from (x ∷ xs) zero = refl
-    from (x ∷ xs) (suc j) = from xs j
+    by : (b : Bool) → cond b (Some x) (row_at xs class key) ≡ Some r → (row_at xs class key ≡ Some r → length (others class key xs) < length xs) → length (cond (not b) (x ∷ others class key xs) (others class key xs)) < length (x ∷ xs)
+    by true k rest = let most = no_more class key xs in omega (arith, most)
+    by false k rest = let less = rest k in omega (arith, less)
 
 -- ---- the rows of several keys
 

@@ -1,14 +1,15 @@
 -- The keys of the rows that go.
-use Rattle.std.proofs.Common.{◌≡◌, ℕ, ◌<◌, ◌≤◌, ◌+◌, ◌*◌, ◌-◌, suc, zero, List, [], ◌∷◌, ◌++◌, map, take, drop, filter, length, fold, ap, ◌∙◌, sym, refl, subst, cond, Bool, true, false, nat_le, get_or, not, ◌&&◌, ◌==◌, Option, Some, None, arith}
-use Rattle.std.proofs.lemmas.List.{append_assoc, append-nil, take-append-drop}
+use Rattle.std.proofs.Common.{◌≡◌, ℕ, ◌<◌, ◌≤◌, ◌+◌, ◌*◌, ◌-◌, ◌^◌, suc, zero, List, [], ◌∷◌, ◌++◌, map, take, drop, filter, length, fold, ap, ◌∙◌, sym, refl, subst, cond, Bool, true, false, nat_le, get_or, not, ◌&&◌, ◌==◌, Option, arith}
+use Rattle.std.proofs.lemmas.List.{append_assoc, append-nil, take-append-drop, map-append, length-append, length-drop}
 use Rattle.std.proofs.lemmas.Bool.{lt-leb}
 use Rattle.std.proofs.lemmas.List.Sums.{fold-append, fold_more}
-use Rattle.std.specs.Prelude.{bytes_eq, Result, Ok, Err, IfOk, slice_get, unwrap_or}
+use Rattle.std.specs.Prelude.{bytes_eq, Result, Ok, Err, IfOk}
 use Rattle.std.specs.List.{list_any}
 use Rattle.std.specs.HashSet as bag
 use Rattle.voice_model.specs.State.{class_number}
 use Rattle.voice_model.specs.Changes.{unlisted_keys}
 use Rattle.voice_model.specs.declared.calls.Row.{Row}
+use Rattle.interest_table.specs.Inside.{first_keys, kept, entry_of, row_in, AllKept}
 
 -- ---- the number that bytes spell
 
@@ -30,11 +31,14 @@ too_large bytes i number byte most within so_far here above =
     let front = spelled_front (take (i + 1) bytes) (drop (i + 1) bytes) bytes (take-append-drop (i + 1) bytes) in
     sym (lt-leb (fold and_byte 0 bytes) most (omega (arith, step, front, above, so_far, here)))
 
--- ---- the rows of a test
+-- where the number so far has no room for a byte, the whole has 2^64 at least
+pub too_long : (bytes : List ℕ) (i number : ℕ) → i < length bytes → number ≡ fold and_byte 0 (take i bytes) → 2 ^ 56 ≤ number → 2 ^ 64 ≤ fold and_byte 0 bytes
+too_long bytes i number within so_far large =
+    let step : fold and_byte 0 (take (i + 1) bytes) ≡ fold and_byte 0 (take i bytes) * 256 + get_or bytes i 0 = fold_more and_byte 0 bytes i 0 within in
+    let front = spelled_front (take (i + 1) bytes) (drop (i + 1) bytes) bytes (take-append-drop (i + 1) bytes) in
+    omega (arith, step, front, large, so_far)
 
--- the keys of the first rows that pass a test
-abbrev pub first_keys : (Row → Bool) → ℕ → List Row → List (List ℕ)
-first_keys test n rows = map (λ row. row.key) (take n (filter test rows))
+-- ---- the rows of a test
 
 taken_front : (row : Row) (rows : List Row) (n m : ℕ) → n ≡ suc m → map (λ (row : Row). row.key) (take n (row ∷ rows)) ≡ row.key ∷ map (λ (row : Row). row.key) (take m rows)
 taken_front row rows n m e = ap (λ k. map (λ (row : Row). row.key) (take k (row ∷ rows))) e
@@ -58,60 +62,50 @@ take_none : {A : Type 0} (n : ℕ) → take {A = A} n [] ≡ []
 take_none zero = refl
 take_none (suc n) = refl
 
--- a row that fails the test gives no key
-pub key_passed : (test : Row → Bool) (n : ℕ) (row : Row) (left before : List Row) (keys all : List (List ℕ)) → test row ≡ false → before ≡ row ∷ left → keys ++ first_keys test n before ≡ all → keys ++ first_keys test n left ≡ all
-key_passed test n row left before keys all fails is so_far =
-    ap (λ l. keys ++ map (λ (row : Row). row.key) (take n l)) (sym (ap (filter test) is ∙ ap (λ b. cond b (row ∷ filter test left) (filter test left)) fails)) ∙ so_far
+-- ---- the rows of stamps
 
--- where all keys are had, rows give no more
-pub keys_full : (test : Row → Bool) (most : ℕ) (left before : List Row) (keys all : List (List ℕ)) → most ≤ length keys → keys ++ first_keys test (most - length keys) before ≡ all → keys ++ first_keys test (most - length keys) left ≡ all
-keys_full test most left before keys all full so_far =
-    let none : most - length keys ≡ 0 = omega (arith, full) in
-    ap (λ n. keys ++ first_keys test n left) none ∙ sym (ap (λ n. keys ++ first_keys test n before) none) ∙ so_far
-
--- the keys of all rows that pass a test
-abbrev pub test_keys : (Row → Bool) → List Row → List (List ℕ)
-test_keys test rows = map (λ row. row.key) (filter test rows)
-
-pub key_next : (test : Row → Bool) (row : Row) (left before : List Row) (keys new all : List (List ℕ)) → test row ≡ true → before ≡ row ∷ left → new ≡ keys ++ row.key ∷ [] → keys ++ test_keys test before ≡ all → new ++ test_keys test left ≡ all
-key_next test row left before keys new all passes is pushed so_far =
-    ap (λ l. l ++ test_keys test left) pushed ∙ push_front keys row.key (test_keys test left)
-    ∙ ap (λ l. keys ++ map (λ (row : Row). row.key) l) (sym (ap (filter test) is ∙ ap (λ b. cond b (row ∷ filter test left) (filter test left)) passes)) ∙ so_far
-
-pub key_not : (test : Row → Bool) (row : Row) (left before : List Row) (keys all : List (List ℕ)) → test row ≡ false → before ≡ row ∷ left → keys ++ test_keys test before ≡ all → keys ++ test_keys test left ≡ all
-key_not test row left before keys all fails is so_far =
-    ap (λ l. keys ++ map (λ (row : Row). row.key) l) (sym (ap (filter test) is ∙ ap (λ b. cond b (row ∷ filter test left) (filter test left)) fails)) ∙ so_far
-
--- ---- the rows from a place on
-
-pub drop_here : (rows : List Row) (k j : ℕ) (row : Row) → j ≡ suc k → slice_get rows k ≡ Some row → drop k rows ≡ row ∷ drop j rows
-drop_here rows k j row is at = from rows k row at ∙ ap (λ n. row ∷ drop n rows) (sym is)
+pub drop_stamps : (at : ℕ → Option Row) (ss : List ℕ) (i j d : ℕ) (left : List Row) → j ≡ suc i → i < length ss → map (kept at) (drop i ss) ++ left ≡ kept at (get_or ss i d) ∷ (map (kept at) (drop j ss) ++ left)
+drop_stamps at ss i j d left is within = from ss i within ∙ ap (λ n. kept at (get_or ss i d) ∷ (map (kept at) (drop n ss) ++ left)) (sym is)
   where
-    from : (rows : List Row) (k : ℕ) (row : Row) → slice_get rows k ≡ Some row → drop k rows ≡ row ∷ drop (suc k) rows
-    from [] k row at = cc
-    from (x ∷ xs) zero row at = ap (λ (r : Row). r ∷ xs) (ap (λ (o : Option Row). unwrap_or o x) at)
-    from (x ∷ xs) (suc k) row at = from xs k row at
+    from : (ss : List ℕ) (i : ℕ) → i < length ss → map (kept at) (drop i ss) ++ left ≡ kept at (get_or ss i d) ∷ (map (kept at) (drop (suc i) ss) ++ left)
+    from [] i within = absurd (omega (arith, within))
+    from (x ∷ xs) zero within = refl
+    from (x ∷ xs) (suc i) within = from xs i (omega (arith, within))
 
-pub drop_none : (rows : List Row) (k : ℕ) → slice_get rows k ≡ None → drop k rows ≡ []
-drop_none [] zero at = refl
-drop_none [] (suc k) at = refl
-drop_none (x ∷ xs) zero at = cc
-drop_none (x ∷ xs) (suc k) at = drop_none xs k at
+kept_rest : (at : ℕ → Option Row) (ss : List ℕ) (k : ℕ) → AllKept at ss → AllKept at (drop k ss)
+kept_rest at [] zero h = tt
+kept_rest at [] (suc k) h = tt
+kept_rest at (s ∷ ss) zero h = h
+kept_rest at (s ∷ ss) (suc k) h = kept_rest at ss k h.1
 
-pub drop_none_more : (rows : List Row) (k j : ℕ) → j ≡ suc k → slice_get rows k ≡ None → drop j rows ≡ drop k rows
-drop_none_more rows k j is at = ap (λ n. drop n rows) is ∙ from rows k at
-  where
-    from : (rows : List Row) (k : ℕ) → slice_get rows k ≡ None → drop (suc k) rows ≡ drop k rows
-    from [] zero at = refl
-    from [] (suc k) at = refl
-    from (x ∷ xs) zero at = cc
-    from (x ∷ xs) (suc k) at = from xs k at
+kept_front : (at : ℕ → Option Row) (run rest : List ℕ) → AllKept at (run ++ rest) → AllKept at run
+kept_front at [] rest h = tt
+kept_front at (s ∷ ss) rest h = (h.0, kept_front at ss rest h.1)
 
-pub drop_all : {A : Type 0} (xs : List A) (k : ℕ) → length xs ≤ k → drop k xs ≡ []
-drop_all [] zero h = refl
-drop_all [] (suc k) h = refl
-drop_all (x ∷ xs) zero h = absurd (omega (arith, h))
-drop_all (x ∷ xs) (suc k) h = drop_all xs k (omega (arith, h))
+-- the stamps of a run have rows
+pub kept_run : (at : ℕ → Option Row) (ss run : List ℕ) (k : ℕ) → AllKept at ss → drop k ss ≡ run ++ drop (k + length run) ss → AllKept at run
+kept_run at ss run k h is = kept_front at run (drop (k + length run) ss) (subst (AllKept at) is (kept_rest at ss k h))
+
+-- the rows of a run come first
+pub run_first : (at : ℕ → Option Row) (ss run : List ℕ) (k : ℕ) → drop k ss ≡ run ++ drop (k + length run) ss → map (kept at) (drop k ss) ≡ map (kept at) run ++ map (kept at) (drop (k + length run) ss)
+run_first at ss run k is = ap (map (kept at)) is ∙ map-append (kept at) run (drop (k + length run) ss)
+
+pub run_within : (ss run rest : List ℕ) (k : ℕ) → k ≤ length ss → drop k ss ≡ run ++ rest → k + length run ≤ length ss
+run_within ss run rest k within is =
+    let all = ap length is in
+    let whole = length-drop k ss in
+    let parts = length-append run rest in
+    omega (arith, within, all, whole, parts)
+
+pub rows_kept_all : (at : ℕ → Option Row) (ss : List ℕ) → map row_in (map (entry_of at) ss) ≡ map (kept at) ss
+rows_kept_all at [] = refl
+rows_kept_all at (s ∷ ss) = ap (λ l. kept at s ∷ l) (rows_kept_all at ss)
+
+pub drop_all : (at : ℕ → Option Row) (xs : List ℕ) (k : ℕ) → length xs ≤ k → map (kept at) (drop k xs) ≡ []
+drop_all at [] zero h = refl
+drop_all at [] (suc k) h = refl
+drop_all at (x ∷ xs) zero h = absurd (omega (arith, h))
+drop_all at (x ∷ xs) (suc k) h = drop_all at xs k (omega (arith, h))
 
 -- where no row is left, the keys so far are all
 pub none_left : (test : Row → Bool) (n : ℕ) (left : List Row) (keys all : List (List ℕ)) → left ≡ [] → keys ++ first_keys test n left ≡ all → keys ≡ all

@@ -4,3 +4,5 @@ pub mod Keys
 pub mod Told
 pub mod Listed
 pub mod Goes
+pub mod Dated
+pub mod Due

@@ -3,8 +3,9 @@ use Rattle.std.proofs.Common.{◌≡◌, ℕ, ◌<◌, ◌≤◌, ◌+◌, ◌^�
 use Rattle.std.proofs.lemmas.Bool.{eqb-true, ltb-true, lt-ltb}
 use Rattle.std.specs.Prelude.{nat_lt, nat_eq, slice_get, remove, unwrap_or}
 use Rattle.std.specs.Map.{lookup}
-use Rattle.std.specs.List.Sorted.{IsPartitionPoint, IsPartitionedBy}
+use Rattle.std.specs.List.Sorted.{IsPartitionedBy}
 use Rattle.indexmap.specs.IndexMap as index
+use Rattle.counted_row.specs.Row.{passing}
 use Rattle.voice_model.specs.State.{is_row, row_at}
 use Rattle.voice_model.specs.declared.calls.Row.{Row}
 use Rattle.voice_model.specs.declared.calls.Class.{Class}
@@ -26,15 +27,15 @@ renamed old new class key w h other text =
 
 -- ---- stamps
 
-or_true : (b c : Bool) → c ≡ true → cond b true c ≡ true
+pub or_true : (b c : Bool) → c ≡ true → cond b true c ≡ true
 or_true true c k = refl
 or_true false c k = k
 
 -- the first stamp of a list is in it
-own_among : (u : ℕ) (us : List ℕ) → among u (u ∷ us) ≡ true
+pub own_among : (u : ℕ) (us : List ℕ) → among u (u ∷ us) ≡ true
 own_among u us = ap (λ b. cond b true (among u us)) (eq-eqb u u refl)
 
-low_absent : (s low top : ℕ) (ts : List ℕ) → s < low → Rises low ts top → among s ts ≡ false
+pub low_absent : (s low top : ℕ) (ts : List ℕ) → s < low → Rises low ts top → among s ts ≡ false
 low_absent s low top [] below h = refl
 low_absent s low top (t ∷ ts) below h =
     let rest = low_absent s (t + 1) top ts (omega (arith, below, h.0)) h.1 in
@@ -44,7 +45,7 @@ low_absent s low top (t ∷ ts) below h =
     by true e rest = let same : s ≡ t = eqb-true s t e in absurd (omega (arith, same, below, h.0))
     by false e rest = rest
 
-least_top : (low top : ℕ) (ts : List ℕ) → Rises low ts top → low ≤ top
+pub least_top : (low top : ℕ) (ts : List ℕ) → Rises low ts top → low ≤ top
 least_top low top [] h = h
 least_top low top (t ∷ ts) h = let rest = least_top (t + 1) top ts h.1 in omega (arith, rest, h.0)
 
@@ -56,7 +57,7 @@ below_top s low top (t ∷ ts) h in_it = by (s == t) refl in_it (below_top s (t 
     by true e k rest = let same : s ≡ t = eqb-true s t e in let most = least_top (t + 1) top ts h.1 in omega (arith, same, most)
     by false e k rest = rest k
 
-absent_stay : (s : ℕ) (ts : List ℕ) → among s ts ≡ false → without s ts ≡ ts
+pub absent_stay : (s : ℕ) (ts : List ℕ) → among s ts ≡ false → without s ts ≡ ts
 absent_stay s [] h = refl
 absent_stay s (t ∷ ts) h = by (s == t) h (absent_stay s ts)
   where
@@ -64,11 +65,11 @@ absent_stay s (t ∷ ts) h = by (s == t) h (absent_stay s ts)
     by true e rest = cc
     by false e rest = ap (λ l. t ∷ l) (rest e)
 
-rises_lower : (low high top : ℕ) (ts : List ℕ) → low ≤ high → Rises high ts top → Rises low ts top
+pub rises_lower : (low high top : ℕ) (ts : List ℕ) → low ≤ high → Rises high ts top → Rises low ts top
 rises_lower low high top [] le h = omega (arith, le, h)
 rises_lower low high top (t ∷ ts) le h = (omega (arith, le, h.0), h.1)
 
-rises_without : (s low top : ℕ) (ts : List ℕ) → Rises low ts top → Rises low (without s ts) top
+pub rises_without : (s low top : ℕ) (ts : List ℕ) → Rises low ts top → Rises low (without s ts) top
 rises_without s low top [] h = h
 rises_without s low top (t ∷ ts) h = by (s == t) (rises_without s low top ts (rises_lower low (t + 1) top ts (omega (arith, h.0)) h.1)) (rises_without s (t + 1) top ts h.1)
   where
@@ -92,7 +93,7 @@ was_among s t (u ∷ us) h = by (s == u) (t == u) refl refl h (was_among s t us)
     by false false e f k rest = rest (ap (λ x. cond x true (among t (without s us))) (sym f) ∙ k)
 
 -- another stamp stays
-stays_among : (s t : ℕ) (ts : List ℕ) → among t ts ≡ true → (s == t) ≡ false → among t (without s ts) ≡ true
+pub stays_among : (s t : ℕ) (ts : List ℕ) → among t ts ≡ true → (s == t) ≡ false → among t (without s ts) ≡ true
 stays_among s t [] h apart = cc
 stays_among s t (u ∷ us) h apart = by (s == u) (t == u) refl refl h (λ k. stays_among s t us k apart)
   where
@@ -102,7 +103,7 @@ stays_among s t (u ∷ us) h apart = by (s == u) (t == u) refl refl h (λ k. sta
     by false true e f k rest = ap (λ x. cond x true (among t (without s us))) f
     by false false e f k rest = ap (λ x. cond x true (among t (without s us))) f ∙ rest k
 
-among_push : (s t : ℕ) (ts : List ℕ) → among t ts ≡ true → among t (ts ++ s ∷ []) ≡ true
+pub among_push : (s t : ℕ) (ts : List ℕ) → among t ts ≡ true → among t (ts ++ s ∷ []) ≡ true
 among_push s t [] h = cc
 among_push s t (u ∷ us) h = by (t == u) h (among_push s t us)
   where
@@ -110,12 +111,12 @@ among_push s t (u ∷ us) h = by (t == u) h (among_push s t us)
     by true k rest = refl
     by false k rest = rest k
 
-last_among : (s : ℕ) (ts : List ℕ) → among s (ts ++ s ∷ []) ≡ true
+pub last_among : (s : ℕ) (ts : List ℕ) → among s (ts ++ s ∷ []) ≡ true
 last_among s [] = ap (λ b. cond b true false) (eq-eqb s s refl)
 last_among s (u ∷ us) = or_true (s == u) (among s (us ++ s ∷ [])) (last_among s us)
 
 -- what is in a list with one more is that one, or was in it
-among_either : (s t : ℕ) (ts : List ℕ) → (s == t) ≡ false → among t (ts ++ s ∷ []) ≡ true → among t ts ≡ true
+pub among_either : (s t : ℕ) (ts : List ℕ) → (s == t) ≡ false → among t (ts ++ s ∷ []) ≡ true → among t ts ≡ true
 among_either s t [] apart h = by (t == s) refl h
   where
     by : (b : Bool) → (t == s) ≡ b → cond b true false ≡ true → false ≡ true
@@ -147,29 +148,22 @@ pub partitioned : (s low top : ℕ) (xs : List ℕ) → Rises low xs top → IsP
 partitioned s low top [] h = λ i j d le within e. absurd (omega (arith, within))
 partitioned s low top (x ∷ xs) h = partitioned_at s low top x xs h (partitioned s (x + 1) top xs h.1)
 
-not_less : (a b : ℕ) → nat_lt a b ≡ false → b ≤ a
+pub not_less : (a b : ℕ) → nat_lt a b ≡ false → b ≤ a
 not_less a b h = grind arith
 
 -- what goes from the place where smaller stamps end is the stamp
-pub taken_at : (s low top : ℕ) (ts : List ℕ) (p : ℕ) → Rises low ts top → among s ts ≡ true → IsPartitionPoint (λ y. nat_lt y s ≡ true) (λ y. nat_lt y s ≡ false) ts p → remove ts p ≡ without s ts
-taken_at s low top [] p h in_it at = cc
-taken_at s low top (t ∷ ts) zero h in_it at = by (s == t) refl in_it
+pub taken_at : (s low top : ℕ) (ts : List ℕ) → Rises low ts top → among s ts ≡ true → remove ts (passing (λ y. nat_lt y s) ts) ≡ without s ts
+taken_at s low top [] h in_it = cc
+taken_at s low top (t ∷ ts) h in_it = by (nat_lt t s) refl (s == t) refl in_it (λ k. taken_at s (t + 1) top ts h.1 k)
   where
-    by : (b : Bool) → (s == t) ≡ b → cond b true (among s ts) ≡ true → ts ≡ cond b (without s ts) (t ∷ without s ts)
-    by true e k = let same : s ≡ t = eqb-true s t e in sym (absent_stay s ts (low_absent s (t + 1) top ts (omega (arith, same)) h.1))
-    by false e k =
-        let above : s ≤ t = not_less t s (at.1 0 t (omega arith) (omega arith)) in
+    by : (less : Bool) → nat_lt t s ≡ less → (b : Bool) → (s == t) ≡ b → cond b true (among s ts) ≡ true → (among s ts ≡ true → remove ts (passing (λ y. nat_lt y s) ts) ≡ without s ts) → remove (t ∷ ts) (cond less (suc (passing (λ y. nat_lt y s) ts)) 0) ≡ cond b (without s ts) (t ∷ without s ts)
+    by true less true e k rest = let same : s ≡ t = eqb-true s t e in absurd (omega (arith, same, ltb-true t s less))
+    by true less false e k rest = ap (λ l. t ∷ l) (rest k)
+    by false less true e k rest = let same : s ≡ t = eqb-true s t e in sym (absent_stay s ts (low_absent s (t + 1) top ts (omega (arith, same)) h.1))
+    by false less false e k rest =
+        let above : s ≤ t = not_less t s less in
         let none : among s ts ≡ false = low_absent s (t + 1) top ts (omega (arith, above)) h.1 in
         cc
-taken_at s low top (t ∷ ts) (suc p) h in_it at = by (s == t) refl in_it
-    (λ k. taken_at s (t + 1) top ts p h.1 k (λ i d low high. at.0 (suc i) d (omega (arith, low)) (omega (arith, high)), λ i d low high. at.1 (suc i) d (omega (arith, low)) (omega (arith, high))))
-  where
-    less : t < s
-    less = ltb-true t s (at.0 0 t (omega arith) (omega arith))
-
-    by : (b : Bool) → (s == t) ≡ b → cond b true (among s ts) ≡ true → (among s ts ≡ true → remove ts p ≡ without s ts) → t ∷ remove ts p ≡ cond b (without s ts) (t ∷ without s ts)
-    by true e k rest = let same : s ≡ t = eqb-true s t e in absurd (omega (arith, same, less))
-    by false e k rest = ap (λ l. t ∷ l) (rest k)
 
 -- ---- rows
 
@@ -300,7 +294,7 @@ some_either : (b : Bool) (o : Option ℕ) (s t : ℕ) (P : Type 0) → cond b (S
 some_either true o s t P h f g = f refl (some_same s t h)
 some_either false o s t P h f g = g refl h
 
-bool_either : (b : Bool) (P : Type 0) → (b ≡ true → P) → (b ≡ false → P) → P
+pub bool_either : (b : Bool) (P : Type 0) → (b ≡ true → P) → (b ≡ false → P) → P
 bool_either true P f g = f refl
 bool_either false P f g = g refl
 

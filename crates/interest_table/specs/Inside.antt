@@ -4,15 +4,30 @@
 --     same_name      whether two classes and keys are the same
 --     stamp_at      the stamp under a class and key
 --     among, without      whether a stamp is in a list;  the stamps but for one
+--     AllKept at stamps      each stamp has a row
 --     Rises low stamps top      stamps rise from low on, below top
+--     first_keys test n rows      the keys of the first n rows that pass a test
+--     is_due, is_that      whether a row is of class Until and its note spells a moment;  whether a moment is the one that was found
+--     place, place_of      where a moment and a stamp stand among expiries, by moment and then by stamp;  where an expiry does
+--     AllFit      moments and stamps of expiries are below 2^64
+--     AreOrdered      expiries rise by their places
+--     IsDated at stamps expiries      expiries are of exactly the rows that are due at some moment
+--     IsEntered, IsTaken      one expiry more;  one fewer
+--     IsGained, IsLost      the expiries once a row came under a stamp;  once it went
+--     Leads, NoneDue      the first expiry is of this stamp and is due;  no expiry is due
+--     stamps_due      the stamps of the expiries that are due
+--     Grows low numbers      numbers do not fall, from low on
+--     times      how often a number stands in a list
+--     IsDueStamps now expiries stamps      the stamps of the expiries that are due, rising
 --     Listing      the rows with their stamps, the next stamp, and how many more rows fit without memory
 --     IsListing names at stamps next      what each list of rows keeps
+--     IsTimed names at stamps expiries next      what it keeps with its expiries
 --     AreShort rows      keys have at most 64 bytes, and notes 128
 --     rows_counted counts rope      how many rows of a rope were counted
 --     IsTold tally rows      a tally tells of these rows
 --     Lost old new gone      a tally lost these rows
 --     IsTable rows tally      what each table keeps
-use Rattle.std.specs.Prelude.{◌≡◌, ℕ, ◌+◌, ◌-◌, ◌<◌, ◌≤◌, ◌^◌, ◌==◌, ◌&&◌, min, Bool, true, false, cond, List, [], ◌∷◌, map, length, Option, Some, unwrap_or, bytes_eq}
+use Rattle.std.specs.Prelude.{◌≡◌, ℕ, ◌+◌, ◌-◌, ◌<◌, ◌≤◌, ◌^◌, ◌==◌, ◌&&◌, ◌*◌, ◌++◌, min, Bool, true, false, cond, List, [], ◌∷◌, map, filter, take, nat_le, length, Option, Some, None, unwrap_or, bytes_eq}
 use Rattle.std.specs.Prelude.{nat_eq}
 use Rattle.std.specs.Map.{lookup}
 use Rattle.indexmap.specs.IndexMap as index
@@ -20,9 +35,10 @@ use Rattle.counted_row.specs.Row as counted
 use Rattle.voice_model.specs.declared.calls.Row.{Row}
 use Rattle.voice_model.specs.declared.calls.Class.{Class}
 use Rattle.voice_model.specs.declared.calls.Class.TheVariants.{Held}
-use Rattle.voice_model.specs.State.{class_number, is_row}
+use Rattle.voice_model.specs.State.{class_number, is_row, spelled_number}
 use Rattle.voice_model.specs.Valid.{Once}
 use Rattle.interest_table.specs.declared.listing.RowName.{RowName}
+use Rattle.interest_table.specs.declared.expiries.Expiry.{Expiry}
 use Rattle.interest_table.specs.declared.tally.Tally.{Tally}
 use Rattle.interest_table.specs.Table.{Table, rows_of, key_bytes_of, note_bytes_of}
 
@@ -60,10 +76,96 @@ abbrev pub without : ℕ → List ℕ → List ℕ
 without s [] = []
 without s (t ∷ ts) = cond (s == t) (without s ts) (t ∷ without s ts)
 
+-- each stamp has a row
+abbrev pub AllKept : (ℕ → Option Row) → List ℕ → Type 0
+AllKept at [] = Unit {0}
+AllKept at (s ∷ ss) = (at s ≡ Some (kept at s)) × AllKept at ss
+
 -- stamps rise from low on, below top
 abbrev pub Rises : ℕ → List ℕ → ℕ → Type 0
 Rises low [] top = low ≤ top
 Rises low (s ∷ ss) top = (low ≤ s) × Rises (s + 1) ss top
+
+-- the keys of the first n rows that pass a test
+abbrev pub first_keys : (Row → Bool) → ℕ → List Row → List (List ℕ)
+first_keys test n rows = map (λ row. row.key) (take n (filter test rows))
+
+-- whether a row is of class Until and its note spells this moment
+abbrev pub is_due : ℕ → Row → Bool
+is_due moment row = (class_number row.class == 2) && (spelled_number row.note == moment)
+
+-- whether this moment is the one that was found
+abbrev pub is_that : ℕ → Option ℕ → Bool
+is_that moment None = false
+is_that moment (Some found) = found == moment
+
+-- where a moment and a stamp stand among expiries, by moment and then by stamp
+abbrev pub place : ℕ → ℕ → ℕ
+place moment stamp = moment * 2 ^ 64 + stamp
+
+-- where an expiry does
+abbrev pub place_of : Expiry → ℕ
+place_of e = place e.moment e.stamp
+
+-- moments and stamps of expiries are below 2^64
+abbrev pub AllFit : List Expiry → Type 0
+AllFit [] = Unit {0}
+AllFit (e ∷ es) = (e.moment < 2 ^ 64) × (e.stamp < 2 ^ 64) × AllFit es
+
+-- expiries rise by their places
+pub record AreOrdered (expiries : List Expiry) : Type 0 where
+  pub rising : Rises 0 (map place_of expiries) (2 ^ 128)
+  pub fit : AllFit expiries
+
+-- expiries are of exactly the rows that are due at some moment
+pub record IsDated (at : ℕ → Option Row) (stamps : List ℕ) (expiries : List Expiry) : Type 0 where
+  pub ordered : AreOrdered expiries
+  pub exact : (moment stamp : ℕ) → moment < 2 ^ 64 → stamp < 2 ^ 64 → among (place moment stamp) (map place_of expiries) ≡ (among stamp stamps && is_due moment (kept at stamp))
+
+-- one expiry more
+abbrev pub IsEntered : Expiry → List Expiry → List Expiry → Type 0
+IsEntered coming old new = AreOrdered old → AllFit (coming ∷ []) → among (place_of coming) (map place_of old) ≡ false → AreOrdered new × ((p : ℕ) → among p (map place_of new) ≡ cond (p == place_of coming) true (among p (map place_of old)))
+
+-- one expiry fewer
+abbrev pub IsTaken : Expiry → List Expiry → List Expiry → Type 0
+IsTaken gone old new = AreOrdered old → among (place_of gone) (map place_of old) ≡ true → AreOrdered new × (map place_of new ≡ without (place_of gone) (map place_of old))
+
+-- the expiries once a row came under a stamp
+abbrev pub IsGained : Row → ℕ → List Expiry → List Expiry → Type 0
+IsGained row stamp old new = (at more : ℕ → Option Row) (stamps : List ℕ) → IsDated at stamps old → among stamp stamps ≡ false → more stamp ≡ Some row → ((other : ℕ) → (stamp == other) ≡ false → more other ≡ at other) → IsDated more (stamps ++ stamp ∷ []) new
+
+-- the expiries once the row of a stamp went
+abbrev pub IsLost : Row → ℕ → List Expiry → List Expiry → Type 0
+IsLost row stamp old new = (at left : ℕ → Option Row) (stamps : List ℕ) → IsDated at stamps old → among stamp stamps ≡ true → at stamp ≡ Some row → ((other : ℕ) → (stamp == other) ≡ false → left other ≡ at other) → IsDated left (without stamp stamps) new
+
+-- the first expiry is of this stamp and is due
+abbrev pub Leads : ℕ → ℕ → List Expiry → Type 0
+Leads now stamp [] = ⊥
+Leads now stamp (e ∷ es) = (e.stamp ≡ stamp) × (e.moment ≤ now)
+
+-- no expiry is due
+abbrev pub NoneDue : ℕ → List Expiry → Type 0
+NoneDue now [] = Unit {0}
+NoneDue now (e ∷ es) = now < e.moment
+
+-- the stamps of the expiries that are due
+abbrev pub stamps_due : ℕ → List Expiry → List ℕ
+stamps_due now expiries = map (λ e. e.stamp) (filter (λ e. nat_le e.moment now) expiries)
+
+-- numbers do not fall, from low on
+abbrev pub Grows : ℕ → List ℕ → Type 0
+Grows low [] = Unit {0}
+Grows low (n ∷ ns) = (low ≤ n) × Grows n ns
+
+-- how often a number stands in a list
+abbrev pub times : ℕ → List ℕ → ℕ
+times n [] = 0
+times n (m ∷ ms) = cond (n == m) (1 + times n ms) (times n ms)
+
+-- the stamps of the expiries that are due, rising
+pub record IsDueStamps (now : ℕ) (expiries : List Expiry) (stamps : List ℕ) : Type 0 where
+  pub rising : Grows 0 stamps
+  pub same : AreOrdered expiries → (stamp : ℕ) → times stamp stamps ≡ times stamp (stamps_due now expiries)
 
 -- the rows with their stamps, the next stamp, and how many more rows fit without memory
 pub record Listing : Type 0 where
@@ -72,11 +174,11 @@ pub record Listing : Type 0 where
   pub spare : ℕ
 
 -- the list of these parts
-abbrev pub listed : {S T : Type 0} → index.IndexMap RowName ℕ S → index.IndexMap ℕ Row T → counted.Row ℕ → ℕ → Listing
-listed names rows order next = record {
+abbrev pub listed : {S T : Type 0} → index.IndexMap RowName ℕ S → index.IndexMap ℕ Row T → counted.Row ℕ → counted.Row Expiry → ℕ → Listing
+listed names rows order expiries next = record {
   entries = map (entry_of (index.get nat_eq rows)) order.items;
   next = next;
-  spare = min (min (index.spare names) (index.spare rows)) (min order.spare (2 ^ 63 - next));
+  spare = min (min (index.spare names) (index.spare rows)) (min (min order.spare expiries.spare) (2 ^ 63 - next));
 }
 
 -- each stamp has a row, which is found under its class and key; what is found there is a stamp of the list
@@ -85,6 +187,11 @@ pub record IsListing (names : Class → List ℕ → Option ℕ) (at : ℕ → O
   pub stands : (s : ℕ) → among s stamps ≡ true → (at s ≡ Some (kept at s)) × (names (kept at s).class (kept at s).key ≡ Some s)
   pub known : (class : Class) (key : List ℕ) (s : ℕ) → names class key ≡ Some s → (among s stamps ≡ true) × (is_row class key (kept at s) ≡ true)
   pub limit : next ≤ 2 ^ 63
+
+-- what a list keeps with its expiries
+pub record IsTimed (names : Class → List ℕ → Option ℕ) (at : ℕ → Option Row) (stamps : List ℕ) (expiries : List Expiry) (next : ℕ) : Type 0 where
+  pub listing : IsListing names at stamps next
+  pub dated : IsDated at stamps expiries
 
 -- keys have at most 64 bytes, and notes 128
 abbrev pub AreShort : List Row → Type 0

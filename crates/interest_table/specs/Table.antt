@@ -3,6 +3,7 @@
 --     rows_of rope rows      how many rows a rope has
 --     key_bytes_of rows, note_bytes_of rows      how many bytes the keys of rows have;  how many their notes have
 --     expired_keys now rows      the keys of the rows of class Until whose moment is not above now
+--     expired_owners now rows      the ropes of those rows, one for each
 --     is_named class keys row      whether a row is of this class and has one of these keys
 use Rattle.std.specs.Prelude.{ℕ, ◌+◌, Bool, ◌&&◌, ◌==◌, cond, List, [], ◌∷◌, map, filter, length, bytes_eq}
 use Rattle.std.specs.List.{list_any}
@@ -34,6 +35,10 @@ note_bytes_of (row ∷ rows) = length row.note + note_bytes_of rows
 -- the keys of the rows of class Until whose moment is not above now
 abbrev pub expired_keys : ℕ → List Row → List (List ℕ)
 expired_keys now rows = map (λ row. row.key) (filter (is_expired now) rows)
+
+-- the ropes of those rows, one for each
+abbrev pub expired_owners : ℕ → List Row → List ℕ
+expired_owners now rows = map (λ row. row.rope) (filter (is_expired now) rows)
 
 -- whether a row is of this class and has one of these keys
 abbrev pub is_named : Class → List (List ℕ) → Row → Bool

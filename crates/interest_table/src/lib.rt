@@ -1,12 +1,14 @@
 //! The interests in order of making, found by class and key and counted by rope.
 #![tactic(auto)]
 
+mod expiries;
+mod gather;
 mod going;
 mod listing;
 mod rows;
 mod tally;
 
-pub use going::{has_expired, key_set};
+pub use going::key_set;
 pub use rows::{AddError, InterestTable};
 pub use voice_model::Row;
 

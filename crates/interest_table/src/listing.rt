@@ -1,17 +1,22 @@
 //! Rows in order of making, each under a stamp that rises: a row goes without moving those behind it.
 
-ghost use Rattle.std.specs.Prelude.{◌≡◌, ℕ, ◌<◌, ◌≤◌, ◌+◌, ◌^◌, ◌++◌, ◌∷◌, [], List, Bool, true, None, Some, cond, length, not, filter, map, slice_get, remove, nat_eq, option_copied, IfNone, IfOk, OnOk, IsOk};
+ghost use Rattle.std.specs.Prelude.{◌≡◌, ℕ, ◌<◌, ◌≤◌, ◌+◌, ◌^◌, ◌++◌, ◌∷◌, [], List, Bool, true, None, Some, cond, length, not, filter, map, slice_get, nat_eq, option_copied, IfSome, IfNone, IfOk, OnOk, IsOk};
 ghost use Rattle.indexmap.specs.IndexMap.{get, spare};
 ghost use Rattle.voice_model.specs.State.{is_row, row_at};
 ghost use Rattle.voice_model.specs.declared.calls.Class.{Class as AnyClass};
-ghost use Rattle.interest_table.specs.Inside.{row_in, same_name, stamp_at, among, without, Rises};
+ghost use Rattle.interest_table.specs.Inside.{row_in, same_name, stamp_at, among, without, Rises, IsLost};
+ghost use Rattle.interest_table.specs.Table.{expired_keys, expired_owners};
+ghost use Rattle.voice_model.specs.Changes.{is_expired, unlisted_keys};
 
+use crate::expiries::{Expiry, due_stamps, first_due, gain_expiry, lose_expiry};
+use crate::gather::{keys_under, push_absent, ropes_under};
 use counted_row::CountedRow;
 use indexmap::IndexMap;
 use std::alloc::Global;
+use std::collections::HashSet;
 use std::marker::Model;
 use voice_model::{Class, Key, Row};
-use voice_units::NoMemory;
+use voice_units::{Moment, NoMemory, RopeId};
 
 /// How many stamps there are.
 const STAMPS: u64 = 1 << 63;
@@ -29,6 +34,7 @@ pub(crate) struct Listing {
     names: IndexMap<RowName, u64>,
     rows: IndexMap<u64, Row>,
     order: CountedRow<u64>,
+    expiries: CountedRow<Expiry>,
     next: u64,
 }
 
@@ -39,9 +45,9 @@ impl Model for Listing {
 
     ghost Value = { inside.Listing };
 
-    ghost view = { λ l. inside.listed l.names l.rows l.order l.next };
+    ghost view = { λ l. inside.listed l.names l.rows l.order l.expiries l.next };
 
-    ghost invariant = { λ l. inside.IsListing (inside.stamp_at l.names) (get nat_eq l.rows) l.order.items l.next };
+    ghost invariant = { λ l. inside.IsTimed (inside.stamp_at l.names) (get nat_eq l.rows) l.order.items l.expiries.items l.next };
 }
 
 /// The stamp under a class and key.
@@ -99,8 +105,26 @@ fn take_stamp(order: &mut CountedRow<u64>, stamp: u64)
     ensures items { (top : ℕ) → Rises 0 order.old.items top → among stamp order.old.items ≡ true → order.new.items ≡ without stamp order.old.items }
     ensures spare { order.old.spare ≤ order.new.spare }
 {
-    let place = order.partition_point(|other| *other < stamp);
-    order.remove(place);
+    order.remove_at_point(|other| *other < stamp);
+}
+
+/// Takes out the row of a stamp, with its expiry.
+fn take_row(
+    rows: &mut IndexMap<u64, Row>,
+    expiries: &mut CountedRow<Expiry>,
+    stamp: u64,
+) -> Option<Row>
+    ensures value { result ≡ get nat_eq rows.old stamp }
+    ensures rows { (other : ℕ) → get nat_eq rows.new other ≡ cond (nat_eq stamp other) None (get nat_eq rows.old other) }
+    ensures expiries { IfSome result (λ row. IsLost row stamp expiries.old.items expiries.new.items) }
+    ensures spare { spare rows.old ≤ spare rows.new }
+    ensures room { expiries.old.spare ≤ expiries.new.spare }
+{
+    let Some(row) = rows.swap_remove(&stamp) else {
+        return None;
+    };
+    lose_expiry(expiries, &row, stamp);
+    Some(row)
 }
 
 /// The same stamps under names.
@@ -117,17 +141,26 @@ fn copied_rows(rows: &IndexMap<u64, Row>) -> Result<IndexMap<u64, Row>, NoMemory
     Ok(rows.clone()?)
 }
 
-/// The same stamps in order.
-fn copied(alloc: Global, order: &CountedRow<u64>) -> Result<CountedRow<u64>, NoMemory>
-    ensures { IfOk result (λ copy. copy.items ≡ order.now.items) }
+/// Puts copies of values behind those of a row.
+fn push_copies<T: Copy + Drop>(row: &mut CountedRow<T>, values: &[T]) -> Result<(), NoMemory>
+    ensures { OnOk result (row.new.items ≡ row.old.items ++ values.now) }
+{
+    for value in values {
+        row.push(*value)?;
+    }
+    Ok(())
+}
+
+/// The same values in order.
+fn copied<T: Copy + Drop>(alloc: Global, row: &CountedRow<T>) -> Result<CountedRow<T>, NoMemory>
+    ensures { IfOk result (λ copy. copy.items ≡ row.now.items) }
 {
     let mut copy = CountedRow::new(alloc);
-    copy.reserve(order.len())?;
-    for k in 0..order.len() {
-        let Some(stamp) = order.get(k) else {
-            return Err(NoMemory);
-        };
-        copy.push(*stamp)?;
+    copy.reserve(row.len())?;
+    let mut place = 0;
+    while let Some(run) = row.run(place) {
+        push_copies(&mut copy, run)?;
+        place += run.len();
     }
     Ok(copy)
 }
@@ -141,6 +174,7 @@ impl Listing {
             names: IndexMap::new(alloc),
             rows: IndexMap::new(alloc),
             order: CountedRow::new(alloc),
+            expiries: CountedRow::new(alloc),
             next: 0,
         }
     }
@@ -177,6 +211,57 @@ impl Listing {
         self.rows.get(stamp)
     }
 
+    /// The row that expires first, if its moment is not above this one.
+    pub(crate) fn first_expired(&self, now: Moment) -> Option<&Row>
+        ensures some { IfSome result (λ row. (is_expired now row.now ≡ true) × (row_at (map row_in self.now.entries) row.now.class row.now.key ≡ Some row.now)) }
+        ensures none { IfNone result (filter (λ e. not (is_expired now e.1)) self.now.entries ≡ self.now.entries) }
+    {
+        let Some(stamp) = first_due(&self.expiries, now) else {
+            return None;
+        };
+        let Some(row) = self.rows.get(&stamp) else {
+            return None;
+        };
+        Some(row)
+    }
+
+    /// The stamps of the rows of class Until whose moment is not above this one, in order of making.
+    fn expired(&self, now: Moment) -> Result<Vec<u64>, NoMemory>
+        ensures { IfOk result (λ stamps. stamps.items ≡ map (λ e. e.0) (filter (λ e. is_expired now e.1) self.now.entries)) }
+    {
+        due_stamps(*self.names.allocator(), &self.expiries, now)
+    }
+
+    /// The keys of those rows.
+    pub(crate) fn expired_keys(&self, now: Moment) -> Result<Vec<Key>, NoMemory>
+        ensures { IfOk result (λ keys. keys.items ≡ expired_keys now (map row_in self.now.entries)) }
+    {
+        let stamps = self.expired(now)?;
+        keys_under(&self.rows, &stamps)
+    }
+
+    /// The ropes of those rows, one for each.
+    pub(crate) fn expired_ropes(&self, now: Moment) -> Result<Vec<RopeId>, NoMemory>
+        ensures { IfOk result (λ ropes. ropes.items ≡ expired_owners now (map row_in self.now.entries)) }
+    {
+        let stamps = self.expired(now)?;
+        ropes_under(&self.rows, &stamps)
+    }
+
+    /// The keys of the first 65,535 rows of class Listed that are not named, in order of making.
+    pub(crate) fn absent_keys(&self, named: &HashSet<Key>) -> Result<Vec<Key>, NoMemory>
+        ensures { IfOk result (λ keys. keys.items ≡ unlisted_keys (map row_in self.now.entries) named.now.keys) }
+    {
+        let _len = self.order.len();
+        let mut keys = Vec::new(*self.names.allocator());
+        let mut place = 0;
+        while let Some(run) = self.order.run(place) {
+            push_absent(&mut keys, &self.rows, run, named)?;
+            place += run.len();
+        }
+        Ok(keys)
+    }
+
     /// Takes out the row of a class and key.
     pub(crate) fn remove(&mut self, class: Class, key: &Key) -> Option<Row>
         ensures value { result ≡ row_at (map row_in self.old.entries) class key.now }
@@ -187,7 +272,7 @@ impl Listing {
             return None;
         };
         take_stamp(&mut self.order, stamp);
-        self.rows.swap_remove(&stamp)
+        take_row(&mut self.rows, &mut self.expiries, stamp)
     }
 
     /// Makes room for n more rows. It takes no memory where that room is there.
@@ -203,6 +288,7 @@ impl Listing {
         self.names.reserve(n as usize)?;
         self.rows.reserve(n as usize)?;
         self.order.reserve(n as usize)?;
+        self.expiries.reserve(n as usize)?;
         Ok(())
     }
 
@@ -215,6 +301,7 @@ impl Listing {
     {
         let stamp = self.next;
         put_name(&mut self.names, row.class, &row.key, stamp);
+        gain_expiry(&mut self.expiries, &row, stamp);
         put_row(&mut self.rows, stamp, row);
         put_stamp(&mut self.order, stamp);
         self.next += 1;
@@ -227,10 +314,12 @@ impl Listing {
         let names = copied_names(&self.names)?;
         let rows = copied_rows(&self.rows)?;
         let order = copied(*self.names.allocator(), &self.order)?;
+        let expiries = copied(*self.names.allocator(), &self.expiries)?;
         Ok(Listing {
             names,
             rows,
             order,
+            expiries,
             next: self.next,
         })
     }

@@ -3,9 +3,9 @@
 ghost use Rattle.std.specs.Prelude.{◌≡◌, ◌<◌, ◌≤◌, ◌+◌, ◌^◌, ◌++◌, ◌∷◌, ◌↔◌, ℕ, [], length, not, filter, slice_get, IfOk, OnOk, OnErr, IsOk, option_copied, ◌≢◌, Err, IsSomeAnd, IsTrue};
 ghost use Rattle.voice_model.specs.State.{is_row, row_at};
 ghost use Rattle.voice_model.specs.Changes.{is_expired, unlisted_keys};
-ghost use Rattle.interest_table.specs.Table.{expired_keys, rows_of, key_bytes_of, note_bytes_of, is_named};
+ghost use Rattle.interest_table.specs.Table.{expired_keys, expired_owners, rows_of, key_bytes_of, note_bytes_of, is_named};
 
-use crate::going::{has_expired, is_absent, key_set};
+use crate::going::key_set;
 use crate::listing::Listing;
 use crate::tally::{Tally, copy_of, count_of, gain, lose};
 use indexmap::IndexMap;
@@ -68,6 +68,13 @@ impl InterestTable {
         Ok(())
     }
 
+    /// How many rows there are.
+    pub fn len(&self) -> u32
+        ensures { result ≡ length self.now.rows }
+    {
+        self.listing.len() as u32
+    }
+
     /// The row of a class and key.
     pub fn find(&self, class: Class, key: &Key) -> Option<&Row>
         ensures { option_copied result ≡ row_at self.now.rows class key.now }
@@ -102,20 +109,12 @@ impl InterestTable {
         Some(row)
     }
 
-    /// Takes out the rows of class Until whose moment is not above this one, and keeps the order of the rest. It goes over all rows, however many go, and takes no memory.
+    /// Takes out the rows of class Until whose moment is not above this one, and keeps the order of the rest. It looks at those alone, and takes no memory.
     pub fn drop_expired(&mut self, now: Moment)
         ensures rows { self.new.rows ≡ filter (λ row. not (is_expired now row)) self.old.rows }
         ensures spare { self.old.spare ≤ self.new.spare }
     {
-        let mut k = self.listing.len();
-        while k > 0 {
-            k -= 1;
-            let Some(row) = self.listing.row(k) else {
-                continue;
-            };
-            if !has_expired(row, now) {
-                continue;
-            }
+        while let Some(row) = self.listing.first_expired(now) {
             let class = row.class;
             let key = row.key;
             self.remove(class, &key);
@@ -175,42 +174,27 @@ impl InterestTable {
         Ok(())
     }
 
-    /// The keys of the rows of class Until whose moment is not above this one, in order of making.
+    /// The keys of the rows of class Until whose moment is not above this one, in order of making. It looks at those alone.
     pub fn obsolete_until(&self, moment: Moment) -> Result<KeyList, NoMemory>
         ensures { IfOk result (λ keys. keys ≡ expired_keys moment self.now.rows) }
     {
-        let mut keys = Vec::new(self.listing.allocator());
-        for k in 0..self.listing.len() {
-            let Some(row) = self.listing.row(k) else {
-                continue;
-            };
-            if !has_expired(row, moment) {
-                continue;
-            }
-            keys.push(row.key)?;
-        }
+        let keys = self.listing.expired_keys(moment)?;
         Ok(KeyList::of(keys))
+    }
+
+    /// The ropes of the rows of class Until whose moment is not above this one, a rope for each row, in order of making.
+    pub fn expired_ropes(&self, now: Moment) -> Result<Vec<RopeId>, NoMemory>
+        ensures { IfOk result (λ ropes. ropes.items ≡ expired_owners now self.now.rows) }
+    {
+        self.listing.expired_ropes(now)
     }
 
     /// The keys of the first 65,535 rows of class Listed that a census does not name, in order of making.
     pub fn obsolete_listed(&self, census: &KeyList) -> Result<KeyList, NoMemory>
         ensures { IfOk result (λ keys. keys ≡ unlisted_keys self.now.rows census.now) }
     {
-        let alloc = self.listing.allocator();
-        let named = key_set(alloc, census.items())?;
-        let mut keys = Vec::new(alloc);
-        for k in 0..self.listing.len() {
-            let Some(row) = self.listing.row(k) else {
-                continue;
-            };
-            if keys.len() >= 65_535 {
-                continue;
-            }
-            if !is_absent(row, &named) {
-                continue;
-            }
-            keys.push(row.key)?;
-        }
+        let named = key_set(self.listing.allocator(), census.items())?;
+        let keys = self.listing.absent_keys(&named)?;
         Ok(KeyList::of(keys))
     }
 

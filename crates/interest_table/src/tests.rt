@@ -179,6 +179,51 @@ fn rows_go_at_once(rt: HostRuntime) -> Result<(), Fail> {
     Ok(())
 }
 
+// Moments out of order, two and two equal; one spelled in 9 bytes, and one above 2^64.
+fn fill_moments(table: &mut InterestTable) -> u64 {
+    let mut refused = add(table, Class::Until, b"c", 3, &[0, 9]);
+    refused |= add(table, Class::Until, b"a", 1, &[7]);
+    refused |= add(table, Class::Until, b"d", 4, &[0, 0, 0, 0, 0, 0, 0, 0, 7]);
+    refused |= add(table, Class::Until, b"e", 5, &[1, 0, 0, 0, 0, 0, 0, 0, 1]);
+    refused |= add(table, Class::Until, b"b", 2, &[9]);
+    refused
+}
+
+// The ropes of the rows that are expired at a moment, as the digits of a number.
+fn ropes_until(table: &InterestTable, moment: u32) -> Result<u64, NoMemory> {
+    let ropes = table.expired_ropes(Moment(u64::from(moment)))?;
+    let mut digits: u64 = 0;
+    for rope in &ropes {
+        digits = digits.wrapping_mul(10).wrapping_add(rope.0);
+    }
+    Ok(digits)
+}
+
+fn ropes_by_moment(table: &InterestTable) -> Result<[u64; 3], NoMemory> {
+    Ok([
+        ropes_until(table, 6)?,
+        ropes_until(table, 7)?,
+        ropes_until(table, 9)?,
+    ])
+}
+
+// The first three ropes and the count of the first, once the rows until a moment went.
+fn ropes_after(table: &mut InterestTable, moment: u32) -> [u64; 4] {
+    table.drop_expired(Moment(u64::from(moment)));
+    ropes_of(table)
+}
+
+// Rows that are expired are told in order of making, however their moments stand.
+#[test]
+fn rows_go_by_moment(rt: HostRuntime) -> Result<(), Fail> {
+    let mut table = InterestTable::new(rt.alloc());
+    assert_eq!(rt; fill_moments(&mut table), 0);
+    assert_eq!(rt; ropes_by_moment(&table)?, [0, 14, 3142]);
+    assert_eq!(rt; ropes_after(&mut table, 8), [3, 5, 2, 0]);
+    assert_eq!(rt; ropes_after(&mut table, 9), [5, 0, 0, 0]);
+    Ok(())
+}
+
 // How many of a thousand rows, in order under the bytes of their numbers, are refused.
 fn fill_many(table: &mut InterestTable) -> u64 {
     let mut refused: u64 = 0;

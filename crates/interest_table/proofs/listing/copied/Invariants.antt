@@ -1,6 +1,9 @@
-use Rattle.std.proofs.Common.{◌≡◌, take}
+use Rattle.std.proofs.Common.{◌≡◌, ◌-◌, ◌≤◌, ◌++◌, length, drop}
 use Rattle.interest_table.proofs.listing.copied.Given as goal
 
--- the stamps so far
-abbrev pub invariant-loop-k : goal.invariant-loop-k
-invariant-loop-k l = l.copy.items ≡ take l.k l.order.items
+-- the values so far, and those that are left
+abbrev pub invariant-loop-run : goal.invariant-loop-run
+invariant-loop-run g l = record { within : l.place ≤ length l.row.items; items : l.copy.items ++ drop l.place l.row.items ≡ l.row.items }
+
+abbrev pub decreases-loop-run : goal.decreases-loop-run
+decreases-loop-run g l = length l.row.items - l.place

@@ -1,0 +1,167 @@
+//! The rows of class Until by their moments. A row whose note spells no number below 2^64 never expires.
+
+ghost use Rattle.std.specs.Prelude.{◌≡◌, ℕ, ◌<◌, ◌≤◌, ◌+◌, ◌^◌, ◌++◌, map, take, filter, nat_lt, nat_le, IfOk, OnOk, IfSome, IfNone};
+ghost use Rattle.voice_model.specs.State.{spelled_number};
+ghost use Rattle.interest_table.specs.Inside.{is_due, is_that, place_of, AreOrdered, IsEntered, IsTaken, IsGained, IsLost, Leads, NoneDue, IsDueStamps};
+
+use counted_row::CountedRow;
+use std::alloc::Global;
+use voice_model::{Class, Row};
+use voice_units::{Moment, NoMemory};
+
+/// The moment of a row, and its stamp.
+#[derive(Clone, Copy)]
+pub(crate) struct Expiry {
+    pub(crate) moment: u64,
+    pub(crate) stamp: u64,
+}
+
+/// The number that bytes spell, the first byte highest.
+fn spelled(bytes: &[u8]) -> Option<u64>
+    ensures some { IfSome result (λ number. number ≡ spelled_number bytes.now) }
+    ensures none { IfNone result (2 ^ 64 ≤ spelled_number bytes.now) }
+{
+    let mut number = 0u64;
+    for byte in bytes {
+        if number >= 1 << 56 {
+            return None;
+        }
+        number = number * 256 + u64::from(*byte);
+    }
+    Some(number)
+}
+
+/// The moment at which a row expires.
+fn moment_of(row: &Row) -> Option<u64>
+    ensures { (moment : ℕ) → moment < 2 ^ 64 → is_due moment row.now ≡ is_that moment result }
+{
+    if !matches!(row.class, Class::Until) {
+        return None;
+    }
+    spelled(row.note.bytes())
+}
+
+/// Whether one expiry stands before another.
+fn stands_before(one: &Expiry, other: &Expiry) -> bool
+    ensures { result ≡ nat_lt (place_of one.now) (place_of other.now) }
+{
+    let earlier = one.stamp < other.stamp;
+    if one.moment == other.moment {
+        return earlier;
+    }
+    one.moment < other.moment
+}
+
+/// Puts an expiry where it belongs, where there is room.
+fn put_expiry(expiries: &mut CountedRow<Expiry>, coming: Expiry)
+    requires { 0 < expiries.old.spare }
+    ensures items { IsEntered coming expiries.old.items expiries.new.items }
+    ensures spare { expiries.old.spare ≤ expiries.new.spare + 1 }
+{
+    let place = expiries.partition_point(|other| stands_before(other, &coming));
+    let Ok(()) = expiries.insert(place, coming) else {
+        return;
+    };
+}
+
+/// Takes out an expiry that is there.
+fn take_expiry(expiries: &mut CountedRow<Expiry>, gone: Expiry)
+    ensures items { IsTaken gone expiries.old.items expiries.new.items }
+    ensures spare { expiries.old.spare ≤ expiries.new.spare }
+{
+    let place = expiries.partition_point(|other| stands_before(other, &gone));
+    expiries.remove(place);
+}
+
+/// A row comes under a stamp, where there is room.
+pub(crate) fn gain_expiry(expiries: &mut CountedRow<Expiry>, row: &Row, stamp: u64)
+    requires { 0 < expiries.old.spare }
+    ensures items { IsGained row.now stamp expiries.old.items expiries.new.items }
+    ensures spare { expiries.old.spare ≤ expiries.new.spare + 1 }
+{
+    let Some(moment) = moment_of(row) else {
+        return;
+    };
+    put_expiry(expiries, Expiry { moment, stamp });
+}
+
+/// The row of a stamp goes.
+pub(crate) fn lose_expiry(expiries: &mut CountedRow<Expiry>, row: &Row, stamp: u64)
+    ensures items { IsLost row.now stamp expiries.old.items expiries.new.items }
+    ensures spare { expiries.old.spare ≤ expiries.new.spare }
+{
+    let Some(moment) = moment_of(row) else {
+        return;
+    };
+    take_expiry(expiries, Expiry { moment, stamp });
+}
+
+/// The stamp of the row that expires first, if its moment is not above this one.
+pub(crate) fn first_due(expiries: &CountedRow<Expiry>, now: Moment) -> Option<u64>
+    ensures some { IfSome result (λ stamp. Leads now stamp expiries.now.items) }
+    ensures none { IfNone result (NoneDue now expiries.now.items) }
+    ensures moment { now < 2 ^ 64 }
+{
+    let most = now.number();
+    let Some(first) = expiries.get(0) else {
+        return None;
+    };
+    if first.moment > most {
+        return None;
+    }
+    Some(first.stamp)
+}
+
+/// How many rows have expired.
+fn due_count(expiries: &CountedRow<Expiry>, now: Moment) -> usize
+    ensures moment { now < 2 ^ 64 }
+    ensures front { AreOrdered expiries.now.items → take result expiries.now.items ≡ filter (λ e. nat_le e.moment now) expiries.now.items }
+{
+    let most = now.number();
+    expiries.partition_point(|other| other.moment <= most)
+}
+
+/// Puts the stamps of some expiries last.
+fn push_stamps(stamps: &mut Vec<u64>, expiries: &[Expiry]) -> Result<(), NoMemory>
+    ensures { OnOk result (stamps.new.items ≡ stamps.old.items ++ map (λ e. e.stamp) expiries.now) }
+{
+    for expiry in expiries {
+        stamps.push(expiry.stamp)?;
+    }
+    Ok(())
+}
+
+/// The stamps of so many expiries in front.
+fn front_stamps(
+    alloc: Global,
+    expiries: &CountedRow<Expiry>,
+    count: usize,
+) -> Result<Vec<u64>, NoMemory>
+    ensures { IfOk result (λ stamps. stamps.items ≡ map (λ e. e.stamp) (take count expiries.now.items)) }
+{
+    let mut stamps = Vec::new(alloc);
+    let mut place = 0;
+    while place < count {
+        let Some(run) = expiries.run(place) else {
+            return Ok(stamps);
+        };
+        let more = run.len().min(count - place);
+        push_stamps(&mut stamps, &run[..more])?;
+        place += more;
+    }
+    Ok(stamps)
+}
+
+/// The stamps of the rows whose moment is not above this one, rising.
+pub(crate) fn due_stamps(
+    alloc: Global,
+    expiries: &CountedRow<Expiry>,
+    now: Moment,
+) -> Result<Vec<u64>, NoMemory>
+    ensures stamps { IfOk result (λ stamps. IsDueStamps now expiries.now.items stamps.items) }
+    ensures moment { now < 2 ^ 64 }
+{
+    let mut stamps = front_stamps(alloc, expiries, due_count(expiries, now))?;
+    stamps.sort_unstable();
+    Ok(stamps)
+}
