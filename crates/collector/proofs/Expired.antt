@@ -1,19 +1,17 @@
 -- The rows of a rope that are expired, and the ropes that thereby lose their last row.
-use Rattle.std.proofs.Common.{◌≡◌, ℕ, zero, suc, ◌+◌, ◌≤◌, List, [], ◌∷◌, ◌++◌, length, take, map, filter, Bool, true, false, not, ◌&&◌, ◌||◌, ◌==◌, nat_le, nat_lt, cond, Some, None, refl, sym, ◌∙◌, ap, arith}
-use Rattle.std.specs.Prelude.{slice_get, unwrap_or, option_map}
+use Rattle.std.proofs.Common.{◌≡◌, ℕ, ◌+◌, ◌≤◌, List, [], ◌∷◌, length, map, filter, Bool, true, false, not, ◌&&◌, ◌||◌, ◌==◌, nat_le, nat_lt, cond, Some, None, refl, sym, ◌∙◌, ap, arith}
+use Rattle.std.specs.Prelude.{unwrap_or, option_map}
 use Rattle.std.proofs.lemmas.Bool.{false≢true, eqb-true, eqb-false, lt-ltb, le-ltb}
-use Rattle.std.proofs.lemmas.List.{take_all}
 use Rattle.voice_model.specs.declared.calls.Row.{Row}
 use Rattle.voice_model.specs.State.{has_row}
 use Rattle.voice_model.specs.Changes.{is_expired}
-use Rattle.interest_table.specs.Table.{rows_of}
+use Rattle.interest_table.specs.Table.{rows_of, expired_owners}
 use Rattle.rope_table.specs.declared.ropes.Rope.{Rope}
 use Rattle.rope_table.specs.declared.dues.Due.{Due}
 use Rattle.rope_table.specs.Table.{Every, IsInOrder, is_lower, is_sooner, put_in, rope_of, index_of, due_of}
 use Rattle.rope_table.proofs.InOrder.{split}
 use Rattle.rope_table.proofs.ById.{none_behind}
-use Rattle.collector.specs.Due.{once, copies, is_by, ids_by, rows_kept, expired_of, is_kept, is_gone, gone_ids, has_only_expired}
-use Rattle.collector.proofs.Looked.{take_some}
+use Rattle.collector.specs.Due.{once, copies, is_by, ids_by, rows_kept, is_kept, is_gone, gone_ids, has_only_expired}
 
 -- ---- rows
 
@@ -31,29 +29,19 @@ kept_row : (a b : Bool) (row : Row) (rows : List Row) (id : ℕ) → (row.rope =
 kept_row true b row rows id e = omega arith
 kept_row false b row rows id e = ap (λ t. cond t 1 0 + rows_of id rows) e
 
+expired_row : (a b : Bool) (row : Row) (rows : List Row) (id : ℕ) → (row.rope == id) ≡ b → copies id (map (λ (row : Row). row.rope) (cond a (row ∷ rows) rows)) ≡ once (a && b) + copies id (map (λ (row : Row). row.rope) rows)
+expired_row true b row rows id e = ap (λ t. once t + copies id (map (λ (row : Row). row.rope) rows)) e
+expired_row false b row rows id e = omega arith
+
 -- the rows of a rope are those that are expired and those that are not
-pub rows_split : (now id : ℕ) (rows : List Row) → rows_of id rows ≡ expired_of now id rows + rows_of id (rows_kept now rows)
+pub rows_split : (now id : ℕ) (rows : List Row) → rows_of id rows ≡ copies id (expired_owners now rows) + rows_of id (rows_kept now rows)
 rows_split now id [] = refl
 rows_split now id (row ∷ rows) =
     let rest = rows_split now id rows in
     let one = either (is_expired now row) (row.rope == id) in
+    let gone = expired_row (is_expired now row) (row.rope == id) row (filter (is_expired now) rows) id refl in
     let kept = kept_row (is_expired now row) (row.rope == id) row (rows_kept now rows) id refl in
-    omega (arith, rest, one, kept)
-
-pub expired-append : (now id : ℕ) (xs ys : List Row) → expired_of now id (xs ++ ys) ≡ expired_of now id xs + expired_of now id ys
-expired-append now id [] ys = omega arith
-expired-append now id (x ∷ xs) ys = let rest = expired-append now id xs ys in omega (arith, rest)
-
-pub expired_more : (now id k : ℕ) (rows : List Row) (row : Row) → slice_get rows k ≡ Some row → expired_of now id (take (k + 1) rows) ≡ expired_of now id (take k rows) + once (is_expired now row && (row.rope == id))
-expired_more now id k rows row e =
-    let more = ap (expired_of now id) (take_some rows k row e) in
-    let parts = expired-append now id (take k rows) (row ∷ []) in
-    omega (arith, more, parts)
-
-pub expired_front : (now id k : ℕ) (rows : List Row) → expired_of now id (take k rows) ≤ rows_of id rows
-expired_front now id zero rows = omega arith
-expired_front now id (suc k) [] = omega arith
-expired_front now id (suc k) (row ∷ rows) = let rest = expired_front now id k rows in let one = either (is_expired now row) (row.rope == id) in omega (arith, rest, one)
+    omega (arith, rest, one, gone, kept)
 
 pub has_some : (rows : List Row) (id : ℕ) → has_row rows id ≡ nat_lt 0 (rows_of id rows)
 has_some [] id = refl
@@ -66,13 +54,9 @@ not_some n = split (n == 0)
     (λ e. let z = eqb-true n 0 e in ap not (le-ltb 0 n (omega (arith, z))) ∙ sym e)
     (λ e. let z = eqb-false n 0 e in ap not (lt-ltb 0 n (omega (arith, z))) ∙ sym e)
 
--- where all rows were met, those that are left are not expired
-pub none_left : (now id k left : ℕ) (rows : List Row) → length rows ≤ k → left + expired_of now id (take k rows) ≡ rows_of id rows → (left == 0) ≡ has_only_expired now rows id
-none_left now id k left rows beyond e =
-    let all = ap (expired_of now id) (take_all k rows beyond) in
-    let parts = rows_split now id rows in
-    let same : left ≡ rows_of id (rows_kept now rows) = omega (arith, all, parts, e) in
-    ap (λ n. n == 0) same ∙ sym (ap not (has_some (rows_kept now rows) id) ∙ not_some (rows_of id (rows_kept now rows)))
+-- where as many rows are left as are not expired, none is left exactly where all are
+pub none_left : (now id left : ℕ) (rows : List Row) → left ≡ rows_of id (rows_kept now rows) → (left == 0) ≡ has_only_expired now rows id
+none_left now id left rows same = ap (λ n. n == 0) same ∙ sym (ap not (has_some (rows_kept now rows) id) ∙ not_some (rows_of id (rows_kept now rows)))
 
 -- ---- numbers of ropes that pass a test
 

@@ -1,18 +1,18 @@
 -- The steps by which ropes lose their last row.
-use Rattle.std.proofs.Common.{◌≡◌, ℕ, ◌+◌, ◌-◌, ◌≤◌, ◌<◌, List, [], ◌∷◌, ◌++◌, length, take, map, filter, Bool, true, false, ◌&&◌, ◌==◌, nat_lt, cond, Option, Some, refl, sym, ◌∙◌, ap, subst, arith}
-use Rattle.std.specs.Prelude.{slice_get, unwrap_or}
+use Rattle.std.proofs.Common.{◌≡◌, ℕ, zero, suc, ◌+◌, ◌-◌, ◌≤◌, ◌<◌, List, [], ◌∷◌, ◌++◌, length, get_or, drop, map, filter, Bool, true, false, ◌&&◌, ◌==◌, nat_lt, cond, Option, Some, refl, sym, ◌∙◌, ap, subst, arith}
+use Rattle.std.specs.Prelude.{unwrap_or}
+use Rattle.std.proofs.lemmas.List.{drop_all, drop_more}
 use Rattle.std.proofs.lemmas.Bool.{eqb-true, eq-eqb, ne_eqb, lt-ltb}
 use Rattle.voice_model.specs.declared.calls.Row.{Row}
 use Rattle.voice_model.specs.State.{has_row}
-use Rattle.voice_model.specs.Changes.{is_expired}
-use Rattle.interest_table.specs.Table.{rows_of}
+use Rattle.interest_table.specs.Table.{rows_of, expired_owners}
 use Rattle.rope_table.specs.declared.ropes.Rope.{Rope}
 use Rattle.rope_table.specs.Table.{Every, IsInOrder, is_lower, index_of}
 use Rattle.rope_table.proofs.InOrder.{split}
 use Rattle.std.proofs.lemmas.Bool.{ltb-true}
-use Rattle.collector.specs.Due.{once, copies, Rises, ids_by, expired_of, is_kept, gone_ids, has_only_expired}
+use Rattle.collector.specs.Due.{once, copies, Rises, ids_by, rows_kept, is_kept, gone_ids, has_only_expired}
 use Rattle.collector.proofs.Copies.{copies-append}
-use Rattle.collector.proofs.Expired.{expired_more, expired_front, none_left, gone_split, kept_once, kept_some, loses, ids_that}
+use Rattle.collector.proofs.Expired.{rows_split, none_left, gone_split, kept_once, kept_some, loses, ids_that}
 
 -- ---- a row of a rope goes
 
@@ -50,41 +50,37 @@ one_pushed other rope left kept xs next none e pushed =
     let same = ap (λ b. once ((rope == other) && (b && (left == 0)))) e ∙ ap (λ b. once ((rope == other) && b)) (eq-eqb left 0 (omega arith)) ∙ ap once (and_yes (rope == other)) in
     omega (arith, all, same)
 
--- the rope of an expired row
-pub same_rope : (expired : Bool) (rope other rest : ℕ) (kept : ℕ → Bool) (left : ℕ → ℕ) → expired ≡ true → rest ≡ left rope → once ((rope == other) && (kept rope && (rest == 0))) ≡ once ((expired && (rope == other)) && (kept other && (left other == 0)))
-same_rope expired rope other rest kept left e is = split (rope == other)
-    (λ same. let to = eqb-true rope other same in
-    ap (λ b. once (b && (kept rope && (rest == 0)))) same
-    ∙ ap (λ n. once (kept rope && (n == 0))) is
-    ∙ ap (λ n. once (kept n && (left n == 0))) to
-    ∙ sym (ap (λ b. once ((b && (rope == other)) && (kept other && (left other == 0)))) e ∙ ap (λ b. once (b && (kept other && (left other == 0)))) same))
-    (λ apart. ap (λ b. once (b && (kept rope && (rest == 0)))) apart
-    ∙ sym (ap (λ b. once ((b && (rope == other)) && (kept other && (left other == 0)))) e ∙ ap (λ b. once (b && (kept other && (left other == 0)))) apart))
+-- a rope of which so many rows are left
+pub same_rope : (rope other rest : ℕ) (kept : ℕ → Bool) (left : ℕ → ℕ) → rest ≡ left rope → once ((rope == other) && (kept rope && (rest == 0))) ≡ once ((rope == other) && (kept other && (left other == 0)))
+same_rope rope other rest kept left is = split (rope == other)
+    (λ same. ap (λ n. once ((rope == other) && (kept rope && (n == 0)))) is ∙ ap (λ n. once ((rope == other) && (kept n && (left n == 0)))) (eqb-true rope other same))
+    (λ apart. ap (λ b. once (b && (kept rope && (rest == 0)))) apart ∙ sym (ap (λ b. once (b && (kept other && (left other == 0)))) apart))
 
-pub no_row : (expired same : Bool) (n : ℕ) → expired ≡ false → n ≡ n - once (expired && same)
-no_row expired same n e = let none = ap (λ b. once (b && same)) e in omega (arith, none)
+-- ---- all expired rows, one after another
 
-pub one_row : (expired same : Bool) (n m : ℕ) → expired ≡ true → m ≡ n - once same → m ≡ n - once (expired && same)
-one_row expired same n m e is = let one = ap (λ b. once (b && same)) e in omega (arith, one, is)
-
-pub no_rope_more : (expired same more : Bool) (n : ℕ) → expired ≡ false → n ≡ n + once ((expired && same) && more)
-no_rope_more expired same more n e = let none = ap (λ b. once ((b && same) && more)) e in omega (arith, none)
-
--- ---- all rows, one after another
-
-pub left_start : (left all : ℕ) → left ≡ all → left + 0 ≡ all
-left_start left all e = omega (arith, e)
+pub left_start : (now id left : ℕ) (rows : List Row) (xs : List ℕ) → left ≡ rows_of id rows → xs ≡ expired_owners now rows → left ≡ rows_of id (rows_kept now rows) + copies id xs
+left_start now id left rows xs e is =
+    let parts = rows_split now id rows in
+    let same = ap (copies id) is in
+    omega (arith, e, parts, same)
 
 pub gone_start : (kept : Bool) (left all n : ℕ) → left ≡ all → n ≡ n + once (kept && (nat_lt 0 all && (left == 0)))
 gone_start kept left all n e = split (all == 0)
     (λ z. let none = ap (λ m. once (kept && (nat_lt 0 m && (left == 0)))) (eqb-true all 0 z) ∙ ap once (and_no kept) in omega (arith, none))
     (λ some. let none = ap (λ m. once (kept && (nat_lt 0 all && (m == 0)))) e ∙ ap (λ b. once (kept && (nat_lt 0 all && b))) some ∙ ap (λ b. once (kept && b)) (and_no (nat_lt 0 all)) ∙ ap once (and_no kept) in omega (arith, none))
 
-pub left_more : (now id k left next : ℕ) (rows : List Row) (row : Row) → slice_get rows k ≡ Some row → left + expired_of now id (take k rows) ≡ rows_of id rows → next ≡ left - once (is_expired now row && (row.rope == id)) → next + expired_of now id (take (k + 1) rows) ≡ rows_of id rows
-left_more now id k left next rows row at was is =
-    let more = expired_more now id k rows row at in
-    let most = expired_front now id (k + 1) rows in
-    omega (arith, more, most, was, is)
+copies_next : (id k x : ℕ) (xs : List ℕ) → k < length xs → x ≡ get_or xs k x → copies id (drop k xs) ≡ once (x == id) + copies id (drop (k + 1) xs)
+copies_next id k x xs within is = ap (copies id) (drop_more xs k x within ∙ ap (λ y. y ∷ drop (k + 1) xs) (sym is))
+
+copies_behind : (id k : ℕ) (xs : List ℕ) → copies id (drop k xs) ≤ copies id xs
+copies_behind id zero xs = omega arith
+copies_behind id (suc k) [] = omega arith
+copies_behind id (suc k) (x ∷ xs) = let rest = copies_behind id k xs in omega (arith, rest)
+
+pub left_more : (id k x kept left next : ℕ) (xs : List ℕ) → k < length xs → x ≡ get_or xs k x → left ≡ kept + copies id (drop k xs) → next ≡ left - once (x == id) → next ≡ kept + copies id (drop (k + 1) xs)
+left_more id k x kept left next xs within at was is =
+    let more = copies_next id k x xs within at in
+    omega (arith, more, was, is)
 
 count_more : (kept : Bool) (met : Bool) (start was next left after all : ℕ) → after ≡ left - once met → once met ≤ left → left ≤ all → was ≡ start + once (kept && (nat_lt 0 all && (left == 0))) → next ≡ was + once (met && (kept && (after == 0))) → next ≡ start + once (kept && (nat_lt 0 all && (after == 0)))
 count_more kept true start was next left after all is some most h more =
@@ -95,16 +91,20 @@ count_more kept false start was next left after all is some most h more =
     let same = ap (λ n. once (kept && (nat_lt 0 all && (n == 0)))) (let e : after ≡ left = omega (arith, is) in e) in
     omega (arith, h, more, same)
 
-pub gone_more : (now id k left after start was next : ℕ) (kept : Bool) (rows : List Row) (row : Row) → slice_get rows k ≡ Some row → left + expired_of now id (take k rows) ≡ rows_of id rows → after ≡ left - once (is_expired now row && (row.rope == id))
-    → was ≡ start + once (kept && (nat_lt 0 (rows_of id rows) && (left == 0))) → next ≡ was + once ((is_expired now row && (row.rope == id)) && (kept && (after == 0))) → next ≡ start + once (kept && (nat_lt 0 (rows_of id rows) && (after == 0)))
-gone_more now id k left after start was next kept rows row at all is h more =
-    let one = expired_more now id k rows row at in
-    let most = expired_front now id (k + 1) rows in
-    count_more kept (is_expired now row && (row.rope == id)) start was next left after (rows_of id rows) is (omega (arith, one, most, all)) (omega (arith, all)) h more
+pub gone_more : (now id k x left after start was next : ℕ) (kept : Bool) (rows : List Row) (xs : List ℕ) → k < length xs → x ≡ get_or xs k x → xs ≡ expired_owners now rows → left ≡ rows_of id (rows_kept now rows) + copies id (drop k xs) → after ≡ left - once (x == id)
+    → was ≡ start + once (kept && (nat_lt 0 (rows_of id rows) && (left == 0))) → next ≡ was + once ((x == id) && (kept && (after == 0))) → next ≡ start + once (kept && (nat_lt 0 (rows_of id rows) && (after == 0)))
+gone_more now id k x left after start was next kept rows xs within at all before is h more =
+    let one = copies_next id k x xs within at in
+    let most = copies_behind id k xs in
+    let parts = rows_split now id rows in
+    let same = ap (copies id) all in
+    count_more kept (x == id) start was next left after (rows_of id rows) is (omega (arith, one, before)) (omega (arith, most, parts, same, before)) h more
 
-pub gone_all : (now id k left start was : ℕ) (kept : Bool) (rows : List Row) → length rows ≤ k → left + expired_of now id (take k rows) ≡ rows_of id rows → was ≡ start + once (kept && (nat_lt 0 (rows_of id rows) && (left == 0)))
+pub gone_all : (now id k left start was : ℕ) (kept : Bool) (rows : List Row) (xs : List ℕ) → length xs ≤ k → left ≡ rows_of id (rows_kept now rows) + copies id (drop k xs) → was ≡ start + once (kept && (nat_lt 0 (rows_of id rows) && (left == 0)))
     → was ≡ start + once (kept && (nat_lt 0 (rows_of id rows) && has_only_expired now rows id))
-gone_all now id k left start was kept rows beyond all h = h ∙ ap (λ b. start + once (kept && (nat_lt 0 (rows_of id rows) && b))) (none_left now id k left rows beyond all)
+gone_all now id k left start was kept rows xs beyond all h =
+    let none = ap (copies id) (drop_all k xs beyond) in
+    h ∙ ap (λ b. start + once (kept && (nat_lt 0 (rows_of id rows) && b))) (none_left now id left rows (omega (arith, all, none)))
 
 -- ---- the ropes that go, in rising number
 

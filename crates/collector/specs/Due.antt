@@ -5,7 +5,6 @@
 --     AreLowest low all      some of the numbers, of which none is above one of the others
 --     is_by now due, ids_by now dues      whether a rope is due up to a moment;  the ropes that are
 --     rows_kept now rows      the rows that are not expired
---     expired_of now id rows      how many expired rows a rope has
 --     rows_left counts rows id      how many rows of a rope are left, as a count tells that has the ropes of which some went
 --     is_kept ropes id      whether a rope is live and kept by a row
 --     AreKept rows ropes      a live rope is kept exactly where a row names it
@@ -53,11 +52,6 @@ is_by now due = nat_le due.at now
 -- the ropes that are
 abbrev pub ids_by : ℕ → List Due → List ℕ
 ids_by now dues = map (λ due. due.id) (filter (is_by now) dues)
-
--- how many expired rows a rope has
-abbrev pub expired_of : ℕ → ℕ → List Row → ℕ
-expired_of now id [] = 0
-expired_of now id (row ∷ rows) = once (is_expired now row && (row.rope == id)) + expired_of now id rows
 
 -- how many rows of a rope are left; the count has the ropes of which some went
 abbrev pub rows_left : {H : Type 0} → HashMap ℕ ℕ H → List Row → ℕ → ℕ

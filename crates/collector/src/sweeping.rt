@@ -4,12 +4,12 @@ ghost use Rattle.std.specs.Prelude.{◌≡◌, ℕ, ◌+◌, ◌-◌, ◌≤◌,
 ghost use Rattle.voice_units.specs.Spots.{Spot};
 ghost use Rattle.voice_model.specs.Samples.{Tagged};
 ghost use Rattle.voice_model.specs.State.{Durable};
-ghost use Rattle.voice_model.specs.Changes.{is_expired, swept_ropes};
+ghost use Rattle.voice_model.specs.Changes.{swept_ropes};
 ghost use Rattle.rope_table.specs.Table.{index_of};
 ghost use Rattle.interest_table.specs.Table.{rows_of};
 ghost use Rattle.collector.specs.Due.{copies, once, Rises, AreLowest, ids_by, rows_left, is_kept, AreKept, has_only_expired, gone_ids, ShowsDue, due_count};
 
-use interest_table::{InterestTable, Row, has_expired};
+use interest_table::InterestTable;
 use rope_table::RopeTable;
 use std::alloc::Global;
 use std::collections::HashMap;
@@ -75,27 +75,23 @@ fn push_if_lost(
     Ok(())
 }
 
-// Takes a row as gone if it is expired, and puts its rope last if that was its last row.
+// Takes a row of a rope as gone, and puts the rope last if that was its last row.
 fn take_expired(
     table: &RopeTable,
     interests: &InterestTable,
-    row: &Row,
-    now: Moment,
+    rope: RopeId,
     left: &mut HashMap<RopeId, u32>,
     gone: &mut Vec<RopeId>,
 ) -> Result<(), NoMemory>
-    ensures left { OnOk result ((id : ℕ) → rows_left left.new interests.now.rows id ≡ rows_left left.old interests.now.rows id - once (is_expired now row.now && (row.now.rope == id))) }
-    ensures gone { OnOk result ((id : ℕ) → copies id gone.new.items ≡ copies id gone.old.items + once ((is_expired now row.now && (row.now.rope == id)) && (is_kept table.now.ropes id && (rows_left left.new interests.now.rows id == 0)))) }
+    ensures left { OnOk result ((id : ℕ) → rows_left left.new interests.now.rows id ≡ rows_left left.old interests.now.rows id - once (rope == id)) }
+    ensures gone { OnOk result ((id : ℕ) → copies id gone.new.items ≡ copies id gone.old.items + once ((rope == id) && (is_kept table.now.ropes id && (rows_left left.new interests.now.rows id == 0)))) }
 {
-    if !has_expired(row, now) {
-        return Ok(());
-    }
-    let rest = take_row(left, interests, row.rope)?;
-    push_if_lost(table, row.rope, rest, gone)?;
+    let rest = take_row(left, interests, rope)?;
+    push_if_lost(table, rope, rest, gone)?;
     Ok(())
 }
 
-// Puts the ropes last that lose their last row as the expired ones go. It goes over all rows; more than 2^32 - 1 of them are taken for lack of memory.
+// Puts the ropes last that lose their last row as the expired ones go. It goes over the expired ones alone.
 fn push_lost(
     alloc: Global,
     table: &RopeTable,
@@ -106,13 +102,11 @@ fn push_lost(
     ensures { OnOk result ((id : ℕ) → copies id gone.new.items ≡ copies id gone.old.items + once (is_kept table.now.ropes id && (nat_lt 0 (rows_of id interests.now.rows) && has_only_expired now interests.now.rows id))) }
 {
     let mut left = HashMap::new(alloc);
-    for k in 0..u32::MAX {
-        let Some(row) = interests.row(k) else {
-            return Ok(());
-        };
-        take_expired(table, interests, row, now, &mut left, gone)?;
+    let expired = interests.expired_ropes(now)?;
+    for rope in &expired {
+        take_expired(table, interests, *rope, &mut left, gone)?;
     }
-    Err(NoMemory)
+    Ok(())
 }
 
 // Puts numbers in order.
@@ -177,7 +171,7 @@ fn all_gone<L: Ledger>(
     Ok(gone)
 }
 
-/// The first ropes that a sweep removes, in rising number and at most `limit`: those that no row keeps and that were idle for their wait, and where `until` is 0 those that lose their last row as the expired ones go. The tables are those before the sweep, with the expired rows still in them; `until` is the grace of class Until. Ropes that aren't due cost nothing, and rows only where `until` is 0.
+/// The first ropes that a sweep removes, in rising number and at most `limit`: those that no row keeps and that were idle for their wait, and where `until` is 0 those that lose their last row as the expired ones go. The tables are those before the sweep, with the expired rows still in them; `until` is the grace of class Until. Ropes that aren't due cost nothing, and rows only where they are expired and `until` is 0.
 pub fn first<L: Ledger>(
     alloc: Global,
     table: &RopeTable,

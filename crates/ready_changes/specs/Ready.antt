@@ -25,8 +25,7 @@ use Rattle.voice_model.specs.declared.changes.Change.TheVariants as changes
 use Rattle.voice_blocks.specs.Holders.{holder_at}
 use Rattle.interest_table.specs.Table.{expired_keys}
 use Rattle.recovery.specs.declared.parts.Parts.{Parts}
-use Rattle.recovery.specs.declared.settling.Going.{Going}
-use Rattle.recovery.specs.Gathered.{AreGoing}
+use Rattle.recovery.specs.Gathered.{AreGoing, Gone}
 use Rattle.recovery.specs.Placing.{in_use}
 use Rattle.collector.specs.Due.{AreEqual}
 use Rattle.ready_changes.specs.declared.Act.{Act}
@@ -42,13 +41,13 @@ pub record Comes (spare : ℕ) (d : Durable Spot) (row : Row) (c : Change) : Typ
   pub fresh : row_at d.rows row.class row.key ≡ None
 
 -- rows of class Listed go
-pub record CountsOff (d : Durable Spot) (going : Going) (c : Change) : Type 0 where
+pub record CountsOff (d : Durable Spot) (going : Gone) (c : Change) : Type 0 where
   pub keys : List (List ℕ)
   pub is : c ≡ changes.Census keys
   pub gathered : AreGoing Listed keys d.rows going
 
 -- the rows go that are expired, and these ropes
-pub record Sweeps (d : Durable Spot) (going : Going) (ids : List ℕ) (c : Change) : Type 0 where
+pub record Sweeps (d : Durable Spot) (going : Gone) (ids : List ℕ) (c : Change) : Type 0 where
   pub is : c ≡ changes.Swept ids
   pub gathered : AreGoing Until (expired_keys d.moment d.rows) d.rows going
 

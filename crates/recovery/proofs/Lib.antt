@@ -16,3 +16,4 @@ pub mod PlacesHeld
 pub mod Noted
 pub mod Based
 pub mod TakenSoFar
+pub mod Spent

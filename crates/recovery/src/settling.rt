@@ -15,14 +15,23 @@ use crate::parts::Parts;
 use interest_table::{InterestTable, key_set};
 use std::alloc::Global;
 use std::collections::HashSet;
+use std::marker::Model;
 use voice_model::{Class, Key};
 use voice_units::{Graces, NoMemory, RopeId};
 
-/// Rows that are to go together: their keys, and the rope of each.
+/// Rows that are to go together: their keys, and the rope of each. Contracts see both as lists.
 #[derive(Drop)]
 pub struct Going {
     pub(crate) ropes: Vec<RopeId>,
     pub(crate) keys: HashSet<Key>,
+}
+
+impl Model for Going {
+    ghost use Rattle.recovery.specs.Gathered.{Gone};
+
+    ghost Value = { Gone };
+
+    ghost view = { λ g. record { ropes = g.ropes.items; keys = g.keys.keys } };
 }
 
 /// The number of a class, 1 to 3.

@@ -1,4 +1,4 @@
-use Rattle.std.proofs.Common.{◌≡◌, ℕ, Bool, true, ◌&&◌, not, List, [], length, Result, Ok, Err, refl, sym, ◌∙◌, ap, subst}
+use Rattle.std.proofs.Common.{◌≡◌, ℕ, Bool, true, false, arith, ◌&&◌, not, List, [], length, Result, Ok, Err, refl, sym, ◌∙◌, ap, subst}
 use Rattle.std.specs.Prelude.{filter, is_some, IsErr}
 use Rattle.std.specs.List.{list_all}
 use Rattle.voice_units.specs.declared.shapes.Shape.{Shape}
@@ -30,17 +30,18 @@ left_rows old r keys h e =
     ap (λ l. rows_without Until l r.rows) (e ∙ ap (λ m. expired_keys m old.interests.rows) h.kept.moment ∙ ap (expired_keys r.moment) h.kept.rows) ∙ expired_are r.moment r.rows h.valid.kept.once
 
 -- whether a sweep is legal
-legal_sweep : (old : Parts) (r : Rebuilt) (left : List Row) (ids : List ℕ) → Rebuilds old r → left ≡ filter (λ row. not (is_expired old.moment row)) old.interests.rows
-    → list_all (λ id. is_some (rope_of old.ropes.ropes id) && not (has_row left id)) ids ≡ list_all (may_go (without_expired r.form r.kept)) ids
-legal_sweep old r left ids h l =
-    may_go_shown [] r.form r.kept old.ropes old.interests.rows left old.moment old.next ids h.kept
-    (l ∙ ap (λ now. filter (λ (row : Row). not (is_expired now row)) old.interests.rows) h.kept.moment ∙ ap (filter (λ (row : Row). not (is_expired r.moment row))) h.kept.rows)
+legal_sweep : (old : Parts) (r : Rebuilt) (ids : List ℕ) → Rebuilds old r → list_all (λ id. is_some (rope_of old.ropes.ropes id) && not (has_row (filter (λ row. not (is_expired old.moment row)) old.interests.rows) id)) ids ≡ list_all (may_go (without_expired r.form r.kept)) ids
+legal_sweep old r ids h =
+    may_go_shown [] r.form r.kept old.ropes old.interests.rows (filter (λ row. not (is_expired old.moment row)) old.interests.rows) old.moment old.next ids h.kept
+    (ap (λ now. filter (λ (row : Row). not (is_expired now row)) old.interests.rows) h.kept.moment ∙ ap (filter (λ (row : Row). not (is_expired r.moment row))) h.kept.rows)
 
-pub returns-then-not-are_bare : goal.returns-then-not-are_bare
-returns-then-not-are_bare c =
+pub returns-then-not-legal : goal.returns-then-not-legal
+returns-then-not-legal c =
     let old = c.args.self.now in
+    let test = c.if-not-legal.true in
+    let answer : c.in_ok-legal.legal ≡ false = first_of (cc, grind arith) in
     record {
-      legal = λ r h s. c.if-not-are_bare.ensures ∙ legal_sweep old r c.in_ok-left.left.rows c.args.ids.now h c.in_ok-left.ensures;
+      legal = λ r h s. sym answer ∙ c.in_ok-legal.ensures ∙ legal_sweep old r c.args.ids.now h;
       done = λ r h s e. cc;
       same = λ r h s e. h;
     }
@@ -65,8 +66,10 @@ returns c =
     let new = c.remove_ropes.new.self in
     let ids = c.args.ids.now in
     let keys = c.items.result.now in
+    let test = c.if-not-legal.false in
+    let answer : c.in_ok-legal.legal ≡ true = first_of (cc, grind arith) in
     let legal : (r : Rebuilt) → Rebuilds old r → true ≡ list_all (may_go (without_expired r.form r.kept)) ids =
-    λ r h. c.if-not-are_bare.ensures ∙ legal_sweep old r c.in_ok-left.left.rows ids h c.in_ok-left.ensures in
+    λ r h. sym answer ∙ c.in_ok-legal.ensures ∙ legal_sweep old r ids h in
     record {
       legal = λ r h s. legal r h;
       done = λ r h s e.
