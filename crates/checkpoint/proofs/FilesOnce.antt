@@ -5,7 +5,7 @@ use Rattle.voice_units.specs.Blocks.{BlockPair, same_pair, has_pair, distinct}
 use Rattle.voice_units.proofs.Distinct.{same_pair-true}
 use Rattle.voice_model.specs.State.{among}
 use Rattle.voice_model.specs.Changes.{each_once}
-use Rattle.checkpoint.specs.Size.{has_file, files_of}
+use Rattle.rope_table.specs.Table.{has_file, files_of}
 
 -- the files of blocks, one by one
 abbrev file_numbers : List BlockPair → List ℕ

@@ -10,7 +10,8 @@ use Rattle.voice_model.specs.State.{Durable, Live, among}
 use Rattle.voice_model.specs.Changes.{each_once, live_pairs, rope_size, base_size}
 use Rattle.voice_model.specs.Valid.{Every, IsRope, IsRow, IsKept}
 use Rattle.voice_model.specs.declared.calls.Row.{Row}
-use Rattle.checkpoint.specs.Size.{key_bytes, note_bytes, size_by_numbers, pieces_of_live, numbers_in, AreSmall}
+use Rattle.interest_table.specs.Table.{key_bytes_of, note_bytes_of}
+use Rattle.checkpoint.specs.Size.{size_by_numbers, pieces_of_live, numbers_in, AreSmall}
 use Rattle.checkpoint.specs.declared.sizes.BaseNumbers.{BaseNumbers}
 
 -- ---- sums
@@ -29,7 +30,7 @@ ropes_by false form e (rope ∷ ropes) =
     let rest = ropes_by false form e ropes in
     omega (arith, whole, one, rest)
 
-rows_by : (rows : List Row) → sum_by (λ row. 17 + length row.key + length row.note) rows ≡ 17 * length rows + key_bytes rows + note_bytes rows
+rows_by : (rows : List Row) → sum_by (λ row. 17 + length row.key + length row.note) rows ≡ 17 * length rows + key_bytes_of rows + note_bytes_of rows
 rows_by [] = refl
 rows_by (row ∷ rows) =
     let whole = sum_by-cons (λ (row : Row). 17 + length row.key + length row.note) row rows in
@@ -80,14 +81,14 @@ few_pieces form now (rope ∷ ropes) h =
     let rest = few_pieces form now ropes h.1 in
     omega (arith, most, rest)
 
-short_keys : (ropes : List (Live Tagged)) (rows : List Row) → Every (IsRow ropes) rows → key_bytes rows ≤ 64 * length rows
+short_keys : (ropes : List (Live Tagged)) (rows : List Row) → Every (IsRow ropes) rows → key_bytes_of rows ≤ 64 * length rows
 short_keys ropes [] h = omega arith
 short_keys ropes (row ∷ rows) h =
     let most = leb-true (length row.key) 64 (and_right (nat_le 1 (length row.key)) (nat_le (length row.key) 64) h.0.key) in
     let rest = short_keys ropes rows h.1 in
     omega (arith, most, rest)
 
-short_notes : (ropes : List (Live Tagged)) (rows : List Row) → Every (IsRow ropes) rows → note_bytes rows ≤ 128 * length rows
+short_notes : (ropes : List (Live Tagged)) (rows : List Row) → Every (IsRow ropes) rows → note_bytes_of rows ≤ 128 * length rows
 short_notes ropes [] h = omega arith
 short_notes ropes (row ∷ rows) h =
     let most = leb-true (length row.note) 128 (and_left (nat_le (length row.note) 128) _ h.0.note) in

@@ -16,12 +16,13 @@ use Rattle.voice_model.proofs.BaseSize.{base_sized}
 use Rattle.voice_model.proofs.LegalInReplay.{used_filled}
 use Rattle.voice_model.proofs.StatesOfReplay.{spots_again}
 use Rattle.rope_table.specs.declared.ropes.Rope.{Rope}
-use Rattle.rope_table.specs.Table.{Table, pieces_in}
+use Rattle.rope_table.specs.Table.{Table, pieces_in, pairs_in, piece_count}
 use Rattle.voice_blocks.specs.Holders.{Holders}
 use Rattle.recovery.specs.Shown.{ShowsKept, shown_rope, plain_sample}
 use Rattle.checkpoint.specs.Blocks.{spots_in_ropes}
 use Rattle.checkpoint.specs.Compact.{CanCompact}
-use Rattle.checkpoint.specs.Size.{pairs_in, live_blocks, live_files, piece_count, key_bytes, note_bytes, numbers_of, size_by_numbers, pieces_of_live, numbers_in}
+use Rattle.checkpoint.specs.Size.{live_blocks, live_files, numbers_of, size_by_numbers, pieces_of_live, numbers_in}
+use Rattle.interest_table.specs.Table.{key_bytes_of, note_bytes_of}
 use Rattle.checkpoint.proofs.FilesOnce.{files_once}
 use Rattle.checkpoint.proofs.Numbers.{by_numbers}
 use Rattle.checkpoint.proofs.Tables.{spots_shown}
@@ -65,8 +66,8 @@ module _ (f : Spot → Tagged) (same : (s : Spot) → spot_of (f s) ≡ s) where
         ropes = count i;
         pieces = pieces i;
         rows = length (same_rows i);
-        key_bytes = key_bytes (same_rows i);
-        note_bytes = note_bytes (same_rows i);
+        key_bytes = key_bytes_of (same_rows i);
+        note_bytes = note_bytes_of (same_rows i);
       }
 
   -- so the size of its base comes of the tables

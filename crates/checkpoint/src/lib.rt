@@ -9,7 +9,7 @@ mod ropes;
 mod sizes;
 
 pub use compacting::{compact, compact_parts};
-pub use sizes::{BaseNumbers, base_size};
+pub use sizes::{BaseNumbers, base_size, parts_size};
 
 #[cfg(test)]
 mod tests;

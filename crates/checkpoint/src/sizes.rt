@@ -1,10 +1,17 @@
 //! How large a base is, by numbers that tables keep.
 
-ghost use Rattle.std.specs.Prelude.{◌≡◌, ℕ, ◌+◌, ◌-◌, ◌*◌, ◌^◌, ◌==◌, cond, min};
-ghost use Rattle.voice_model.specs.Samples.{Tagged};
+ghost use Rattle.std.specs.Prelude.{◌≡◌, ℕ, ◌+◌, ◌-◌, ◌*◌, ◌^◌, ◌<◌, ◌==◌, cond, min, List};
+ghost use Rattle.voice_units.specs.declared.Piece.{Piece};
+ghost use Rattle.voice_units.specs.Spots.{Spot};
+ghost use Rattle.voice_model.specs.Samples.{Tagged, spot_of};
 ghost use Rattle.voice_model.specs.State.{Durable};
 ghost use Rattle.voice_model.specs.Changes as model;
+ghost use Rattle.voice_model.specs.Replay.{durable_by};
+ghost use Rattle.recovery.specs.Shown.{Shows};
 ghost use Rattle.checkpoint.specs.Size.{size_by_numbers, numbers_in, AreSmall};
+ghost use Rattle.checkpoint.specs.Size as sizes;
+
+use recovery::Parts;
 
 /// What a base spells, in numbers: the blocks that live ropes use and the files of these, each once; the live ropes and all their pieces; the rows, and the bytes of all their keys and of all their notes.
 #[derive(Clone, Copy, Debug, PartialEq, Eq)]
@@ -49,4 +56,27 @@ pub fn base_size(form: u8, numbers: &BaseNumbers) -> u64
         Ok(size) => size,
         Err(_) => u64::MAX,
     }
+}
+
+/// The numbers of a base of these parts, as the tables count them.
+fn counted(parts: &Parts) -> BaseNumbers
+    ensures { result ≡ sizes.numbers_of parts.now.ropes parts.now.interests.rows }
+{
+    BaseNumbers {
+        files: parts.ropes.live_files(),
+        blocks: parts.ropes.live_blocks(),
+        ropes: parts.ropes.count() as u64,
+        pieces: parts.ropes.live_pieces(),
+        rows: u64::from(parts.interests.len()),
+        key_bytes: parts.interests.key_bytes(),
+        note_bytes: parts.interests.note_bytes(),
+    }
+}
+
+/// The bytes that a base of the parts takes in their form, as records with their gates and lengths. The tables count them: no base is made.
+pub fn parts_size(parts: &Parts) -> u128
+    ensures size { (held : List (List Piece)) (d : Durable Spot) (fill : Spot → Tagged) → Shows held parts.now d → ((x : Spot) → spot_of (fill x) ≡ x) → result ≡ model.base_size parts.now.form (durable_by fill d) }
+    ensures limit { result < 2 ^ 72 }
+{
+    framed_bytes(parts.form, &counted(parts))
 }
