@@ -1,0 +1,50 @@
+//! Calls that can change rows, the moment or remove ropes.
+
+ghost use Rattle.std.specs.Prelude.{◌≡◌, ℕ, List, IfOk, IsTrue};
+ghost use Rattle.voice_units.specs.Spots.{Spot};
+ghost use Rattle.voice_model.specs.Samples.{Tagged, spot_of};
+ghost use Rattle.voice_model.specs.State.{State};
+ghost use Rattle.voice_model.specs.Replay.{Rebuilt, durable_by};
+ghost use Rattle.voice_model.specs.Valid.{IsState};
+ghost use Rattle.recovery.specs.Shown.{Rebuilds};
+ghost use Rattle.row_calls.specs.Asked.{is_row_call, IsAsked};
+
+use crate::{Asked, ask_advance, ask_census, ask_forget, ask_retain, ask_sweep};
+use recovery::Parts;
+use std::alloc::Global;
+use voice_model::{Call, Row};
+use voice_units::{Graces, NoMemory};
+
+/// Asks the tables for a call that can change rows, the moment or remove ropes. All memory that the change needs is taken; the tables show what they did, whatever the answer.
+pub fn ask(
+    alloc: Global,
+    parts: &mut Parts,
+    graces: &Graces,
+    call: &Call,
+) -> Result<Asked, NoMemory>
+    requires call { IsTrue (is_row_call call.now) }
+    requires shown { (b : Rebuilt) × Rebuilds parts.old b × (b.shape.graces ≡ graces.now) }
+    ensures asked { (fill : Spot → Tagged) (b : Rebuilt) (s : State) (tapes : List (List ℕ)) → ((x : Spot) → spot_of (fill x) ≡ x) → Rebuilds parts.old b → durable_by fill b.kept ≡ s.kept → b.form ≡ s.form → IsState s → s.shape.graces ≡ graces.now → IfOk result (IsAsked parts.new b s tapes call.now) }
+    ensures same { (b : Rebuilt) → Rebuilds parts.old b → Rebuilds parts.new b }
+    ensures blocks { parts.new.blocks ≡ parts.old.blocks }
+    ensures form { parts.new.form ≡ parts.old.form }
+    ensures moment { parts.new.moment ≡ parts.old.moment }
+    ensures next { parts.new.next ≡ parts.old.next }
+{
+    match call {
+        Call::Retain(class, key, rope, note) => {
+            let row = Row {
+                class: *class,
+                key: *key,
+                rope: *rope,
+                note: *note,
+            };
+            ask_retain(alloc, parts, row)
+        }
+        Call::Forget(class, key) => ask_forget(alloc, parts, *class, key),
+        Call::Census(keys) => ask_census(alloc, parts, keys),
+        Call::Advance(moment) => ask_advance(alloc, parts, *moment),
+        Call::Sweep(limit) => ask_sweep(alloc, parts, graces, *limit),
+        _ => unreachable!(),
+    }
+}
