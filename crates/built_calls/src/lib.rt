@@ -17,5 +17,11 @@ pub fn can_do(call: &Call) -> bool
             | Call::Sub(..)
             | Call::Replace(..)
             | Call::Length(..)
+            | Call::Retain(..)
+            | Call::Forget(..)
+            | Call::Lookup(..)
+            | Call::Census(..)
+            | Call::Advance(..)
+            | Call::Sweep(..)
     )
 }

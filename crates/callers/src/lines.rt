@@ -4,7 +4,7 @@ ghost use Rattle.std.specs.Prelude.{List, ◌≡◌, ◌⊎◌, IsTrue, OnOk, On
 ghost use Rattle.voice_model.specs.Follows.{Binding};
 ghost use Rattle.script_lang.specs.Verbs.{is_built_verb};
 ghost use Rattle.script_lang.specs.Grammar.{verb_name};
-ghost use Rattle.script_lang.specs.Errands.{HasTape, HasItsRopes, SameValues};
+ghost use Rattle.script_lang.specs.Errands.{HasTape, HasItsRopes, IsInItsRange, SameValues};
 ghost use Rattle.turnstile.specs.Passes.{mine};
 ghost use Rattle.voice_server.specs.Served.{tapes_of, IsPassOf};
 ghost use Rattle.callers.specs.Lines.{LineRan, LineBound, LinePassed};
@@ -34,6 +34,7 @@ pub(crate) fn run_line<R: Wait, D: Disk, G: Gate>(
     requires verb { IsTrue (is_built_verb (verb_name line.now.verb)) }
     requires tape { HasTape (length tapes.now) line.now.verb }
     requires ropes { HasItsRopes line.now.verb }
+    requires range { IsInItsRange line.now.verb }
     ensures pass { IsPassOf server.now pass.new }
     ensures caller { pass.new.caller ≡ pass.old.caller }
     ensures ran { (stand : List Binding) → SameValues variables.old stand → (mine pass.new ≡ mine pass.old) ⊎ LineRan tapes.now line.now stand (mine pass.old) (mine pass.new) }
@@ -64,6 +65,7 @@ pub(crate) fn run_own_line<R: Wait, D: Disk, G: Gate>(
     requires verb { IsTrue (is_built_verb (verb_name line.now.verb)) }
     requires tape { HasTape (length tapes.now) line.now.verb }
     requires ropes { HasItsRopes line.now.verb }
+    requires range { IsInItsRange line.now.verb }
     ensures pass { IsPassOf server.now pass.new }
     ensures caller { pass.new.caller ≡ pass.old.caller }
     ensures ran { (stand : List Binding) → SameValues variables.old stand → (mine pass.new ≡ mine pass.old) ⊎ ((line.now.caller ≡ pass.old.caller) × LineRan tapes.now line.now stand (mine pass.old) (mine pass.new)) }

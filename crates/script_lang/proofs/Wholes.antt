@@ -1,8 +1,11 @@
 -- What holds of each script that was read.
-use Rattle.std.proofs.Common.{◌≡◌, ℕ, suc, ◌+◌, ◌≤◌, ◌<◌, inl, inr, Bool, true, false, cond, List, [], ◌∷◌, ◌++◌, length, length-append, max, sym, refl, arith, subst, Option, Some, None, Ok, Err, lit≤}
-use Rattle.std.specs.Prelude.{Result, IfOk, All, is_some, option_map, unwrap_or}
+use Rattle.std.proofs.Common.{◌≡◌, ℕ, suc, ◌+◌, ◌≤◌, ◌<◌, inl, inr, Bool, true, false, cond, List, [], ◌∷◌, ◌++◌, length, length-append, max, sym, refl, arith, subst, Option, Some, None, Ok, Err, lit≤, ltb-true, le-leb}
+use Rattle.std.specs.Prelude.{Result, IfOk, All, is_some, option_map, unwrap_or, ◌&&◌, nat_lt, nat_le}
 use Rattle.std.specs.Str.{bytes_eq}
+use Rattle.std.specs.List.{list_all}
+use Rattle.std.proofs.lemmas.Bool.{and_parts, and_from}
 use Rattle.std.proofs.lemmas.List.Elements.{All-append, All-cons, All-nil}
+use Rattle.voice_model.specs.Spelling.{is_key}
 use Rattle.script_lang.specs.declared.scripts.ScriptError.{ScriptError}
 use Rattle.script_lang.specs.declared.scripts.Line.{Line}
 use Rattle.script_lang.specs.declared.scripts.Verb.{Verb}
@@ -11,11 +14,12 @@ use Rattle.script_lang.specs.declared.verbs.VerbName.{VerbName}
 use Rattle.script_lang.specs.declared.sentence.Spoken.{Spoken}
 use Rattle.script_lang.specs.Words.{lines_of}
 use Rattle.script_lang.specs.Shown.{Reading}
+use Rattle.script_lang.specs.Forms.{is_short, is_name_byte}
 use Rattle.script_lang.specs.Samples.{place_of}
 use Rattle.script_lang.specs.Parts.{empty_script, mention, line_of, with_line}
 use Rattle.script_lang.specs.Reading.{read_lines, Parses}
 use Rattle.script_lang.specs.Grammar.{Spells, Adds, IsSpoken, Fits, IsSample}
-use Rattle.script_lang.specs.Errands.{HasTape, HasItsRopes}
+use Rattle.script_lang.specs.Errands.{HasTape, HasItsRopes, IsInItsRange}
 use Rattle.script_lang.specs.Whole.{IsLineOf, IsWhole}
 use Rattle.script_lang.proofs.Steps.{lines_found}
 use Rattle.script_lang.proofs.Names.{mention_grows}
@@ -120,6 +124,36 @@ has_ropes names (verbs.Add lane tape) file sample f = tt
 has_ropes names (verbs.End lane) file sample f = tt
 has_ropes names (verbs.Levels rope) file sample f = tt
 
+-- a key, a note and a moment are in the ranges of a call
+key_short : (word : List ℕ) → (is_short word && list_all is_name_byte word) ≡ true → is_key word ≡ true
+key_short word h =
+    let short = (and_parts (is_short word) (list_all is_name_byte word) h).0 in
+    let sizes = and_parts (nat_lt 0 (length word)) (nat_le (length word) 64) short in
+    let some = ltb-true 0 (length word) sizes.0 in
+    and_from (nat_le 1 (length word)) (nat_le (length word) 64) (le-leb 1 (length word) (omega (arith, some))) sizes.1
+
+in_range : (names : List (List ℕ)) (verb : Verb) (file sample : Option (List ℕ)) → Fits names verb file sample → IsInItsRange verb
+in_range names (verbs.Record tape) file sample f = tt
+in_range names (verbs.Concat args) file sample f = tt
+in_range names (verbs.Sub rope start len) file sample f = tt
+in_range names (verbs.Replace rope start len with) file sample f = tt
+in_range names (verbs.Length rope) file sample f = tt
+in_range names (verbs.Retain class key rope note) file sample f = (key_short key f.2, f.4.0)
+in_range names (verbs.Forget class key) file sample f = tt
+in_range names (verbs.Lookup class key) file sample f = tt
+in_range names (verbs.Census keys) file sample f = tt
+in_range names (verbs.Advance moment) file sample f = f.2
+in_range names (verbs.Sweep limit) file sample f = tt
+in_range names (verbs.Describe rope) file sample f = tt
+in_range names (verbs.Queue lane rope start len) file sample f = tt
+in_range names (verbs.Play lane rope start len) file sample f = tt
+in_range names (verbs.Serve lane) file sample f = tt
+in_range names (verbs.Stop lane) file sample f = tt
+in_range names (verbs.Begin lane) file sample f = tt
+in_range names (verbs.Add lane tape) file sample f = tt
+in_range names (verbs.End lane) file sample f = tt
+in_range names (verbs.Levels rope) file sample f = tt
+
 -- the script up to line n
 pub record UpTo (known : VerbName → Bool) (n : ℕ) (r : Reading) : Type 0 where
   pub whole : IsWhole known r
@@ -133,6 +167,7 @@ line_kept known s c t d line p q h = record {
   verb = h.verb;
   tape = tape_more line.verb s t p h.tape;
   ropes = h.ropes;
+  range = h.range;
 }
 
 adds_whole : (known : VerbName → Bool) (n : ℕ) (r : Reading) (s : Spoken) → n ≤ 65535 → IsSpoken known r.samples s → UpTo known n r → UpTo known (n + 1) (with_line n r s)
@@ -149,6 +184,7 @@ adds_whole known n r s few is h =
       verb = is.taken;
       tape = has_tape r.samples s.said.verb s.said.file s.said.sample is.fits;
       ropes = has_ropes r.samples s.said.verb s.said.file s.said.sample is.fits;
+      range = in_range r.samples s.said.verb s.said.file s.said.sample is.fits;
     } in
     let whole : IsWhole known (with_line n r s) = record {
       lines = All-append (IsLineOf known long top) r.lines (line_of n s ∷ []) old (All-cons (IsLineOf known long top) (line_of n s) [] new (All-nil (IsLineOf known long top)));

@@ -3,12 +3,14 @@
 --     errand_of tapes line      a line as its caller's entries follow it
 --     HasTape count verb      the tape that a line names, if it names one, is one of so many
 --     HasItsRopes verb      a concat has 1 to 16 ropes
+--     IsInItsRange verb      the key and the note of a retain and the moment of an advance are in their ranges
 --     SameValues a b      each variable stands for the same rope in both
 --     IsBuiltAlike name call      a verb is built where its call is
 --     IsAskedOf call      a caller may ask the call
-use Rattle.std.specs.Prelude.{ℕ, List, ◌≡◌, ◌≤◌, ◌<◌, IsTrue, Option, Some, None, map, length}
+use Rattle.std.specs.Prelude.{ℕ, List, ◌≡◌, ◌≤◌, ◌<◌, ◌^◌, true, IsTrue, Option, Some, None, map, length}
 use Rattle.voice_model.specs.declared.calls.Call.{Call}
 use Rattle.voice_model.specs.declared.calls.Call.TheVariants as calls
+use Rattle.voice_model.specs.Spelling.{is_key}
 use Rattle.voice_model.specs.Tapes.{whole_of}
 use Rattle.voice_model.specs.Follows.{Binding, Errand, value_of}
 use Rattle.voice_model.specs.Step.{is_asked_of}
@@ -60,6 +62,12 @@ HasTape count _ = Unit {0}
 abbrev pub HasItsRopes : Verb → Type 0
 HasItsRopes (verbs.Concat args) = (1 ≤ length args) × (length args ≤ 16)
 HasItsRopes _ = Unit {0}
+
+-- the key and the note of a retain and the moment of an advance are in their ranges
+abbrev pub IsInItsRange : Verb → Type 0
+IsInItsRange (verbs.Retain class key rope note) = (is_key key ≡ true) × (length note ≤ 128)
+IsInItsRange (verbs.Advance moment) = moment ≤ 2 ^ 40
+IsInItsRange _ = Unit {0}
 
 -- a line as its caller's entries follow it
 abbrev pub errand_of : List (List ℕ) → Line → Errand

@@ -49,6 +49,12 @@ is_built_verb names.Concat = true
 is_built_verb names.Sub = true
 is_built_verb names.Replace = true
 is_built_verb names.Length = true
+is_built_verb names.Retain = true
+is_built_verb names.Forget = true
+is_built_verb names.Lookup = true
+is_built_verb names.Census = true
+is_built_verb names.Advance = true
+is_built_verb names.Sweep = true
 is_built_verb _ = false
 
 -- the verbs that a script may have: those that are built, or all

@@ -115,6 +115,12 @@ impl VerbName {
                 | VerbName::Sub
                 | VerbName::Replace
                 | VerbName::Length
+                | VerbName::Retain
+                | VerbName::Forget
+                | VerbName::Lookup
+                | VerbName::Census
+                | VerbName::Advance
+                | VerbName::Sweep
         )
     }
 }

@@ -11,19 +11,20 @@ voice: a voice manager. It runs a script of calls, and prints one line for each.
                      --threads behind it, each caller's lines on a thread of its own
   voice format       formats the disk anew, and forgets what it has; options with a
                      number behind each: --block 4096, --blocks 15000,
-                     --area 1048576, --grace 86400, --lanes 8 (the defaults)
-  voice --help       prints this
-  voice --version    prints the version
+                     --area 1048576, --grace 86400, --lanes 8 (the defaults);
+                     --held, --until, --listed N: another grace for that class
+  voice --help       prints this; voice --version prints the version
 
 The disk is the file voice.disk of the current folder; where there is none it is
 made and formatted. A script has a line for each call, and comments (#):
-  CALLER [VARIABLE =] record FILE
-  CALLER [VARIABLE =] concat ROPE ..
-  CALLER [VARIABLE =] sub ROPE START LEN
-  CALLER [VARIABLE =] replace ROPE START LEN OTHER
+  CALLER [VARIABLE =] record FILE                     CALLER retain CLASS KEY ROPE NOTE
+  CALLER [VARIABLE =] concat ROPE ..                  CALLER forget CLASS KEY
+  CALLER [VARIABLE =] sub ROPE START LEN              CALLER census KEY ..
+  CALLER [VARIABLE =] replace ROPE START LEN OTHER    CALLER advance MOMENT
+  CALLER [VARIABLE =] lookup CLASS KEY                CALLER sweep LIMIT
   CALLER length ROPE
-CALLER is 1 to 16, FILE a file of the current folder (8,000 one-byte mu-law samples
-a second), ROPE a variable or a number. docs/SCRIPT.md has the whole language.
+CALLER is 1 to 16, FILE a file of the folder (8,000 one-byte mu-law samples a second),
+ROPE a variable or number, CLASS held, until or listed; docs/SCRIPT.md tells the rest.
 
 Exit status: 0 done, 2 bad words or shape, 3 a line of the script is refused, 4 a file
 is absent, 5 the folder failed, 6 the output failed, 7 the disk is damaged, 8 the disk

@@ -9,6 +9,7 @@ pub mod Going
 pub mod Came
 pub mod Exact
 pub mod Pairing
+pub mod Apart
 pub mod Walked
 pub mod Taken
 pub mod Shares

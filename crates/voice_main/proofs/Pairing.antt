@@ -15,7 +15,7 @@ use Rattle.voice_main.specs.Options.{option_text, option_named, all_options, val
 abbrev most : ℕ
 most = 4294967295
 
-some_is : {X : Type 0} (x y : X) → Some x ≡ Some y → x ≡ y
+pub some_is : {X : Type 0} (x y : X) → Some x ≡ Some y → x ≡ y
 some_is x y e = cc
 
 first_cond : (b : Bool) (x v : FormatOption) (o : Option FormatOption) (word : List ℕ) → (b ≡ true → word ≡ option_text x) → (o ≡ Some v → word ≡ option_text v) → cond b (Some x) o ≡ Some v → word ≡ option_text v
@@ -27,11 +27,14 @@ first_is [] word v e = cc
 first_is (x ∷ vs) word v e =
     first_cond (bytes_eq (option_text x) word) x v (find (λ y. bytes_eq (option_text y) word) vs) word (λ t. sym ((bytes_eq-Decides (option_text x) word).0 t)) (first_is vs word v) e
 
-named_again : (option : FormatOption) → option_named (option_text option) ≡ Some option
+pub named_again : (option : FormatOption) → option_named (option_text option) ≡ Some option
 named_again options.Block = refl
 named_again options.Blocks = refl
 named_again options.Area = refl
 named_again options.Grace = refl
+named_again options.Held = refl
+named_again options.Until = refl
+named_again options.Listed = refl
 named_again options.Lanes = refl
 
 named_so : (given : Given) (word value : List ℕ) (option : FormatOption) (n : ℕ) → IsPair given word value option n → option_named word ≡ Some option

@@ -1,6 +1,6 @@
 -- What clap makes of the options of a `format`: its walk over the words, pair by pair.
-use Rattle.std.proofs.Common.{◌≡◌, ◌∙◌, ℕ, ◌<◌, ◌≤◌, ◌==◌, Bool, true, false, cond, not, ◌&&◌, ◌||◌, List, [], ◌∷◌, ◌++◌, drop, Option, Some, None, sym, refl, ap, subst, arith, append-nil, ne_eqb, true≢false}
-use Rattle.std.specs.Prelude.{IfSome, codes, pos, FitsSigned, ◌≤ℤ◌, neg_ℤ, is_some, unwrap_or, option_map, option_and_then}
+use Rattle.std.proofs.Common.{◌≡◌, ◌∙◌, ℕ, ◌<◌, ◌≤◌, ◌==◌, Bool, true, false, cond, not, ◌&&◌, ◌||◌, List, [], ◌∷◌, ◌++◌, drop, map, Option, Some, None, sym, refl, ap, subst, arith, append-nil, ne_eqb, true≢false}
+use Rattle.std.specs.Prelude.{IfSome, codes, pos, FitsSigned, ◌≤ℤ◌, neg_ℤ, is_some, unwrap_or, option_map, option_and_then, option_to_list}
 use Rattle.std.specs.List.{find, fold, list_all}
 use Rattle.std.specs.Option.{option_or, option_map_or}
 use Rattle.std.specs.Int.{w64}
@@ -12,6 +12,7 @@ use Rattle.std.proofs.lemmas.Fmt.{decimal_is_IsNumeral}
 use Rattle.std.proofs.lemmas.Int.{ints}
 use Rattle.std.proofs.lemmas.List.Folds.{find-append}
 use Rattle.std.proofs.lemmas.Str.Parse.{digit_from_value}
+use Rattle.std.proofs.lemmas.Slice.Eq.{bytes_eq-Decides}
 use Rattle.clap.specs.Lexer.{without_minus}
 use Rattle.clap.specs.ValueTests.{accepts}
 use Rattle.clap.proofs.ValueTestLemmas.{Accepts-accepts}
@@ -26,42 +27,46 @@ use Rattle.clap.specs.declared.parser.matches.ValueSource.TheVariants.{DefaultVa
 use Rattle.voice_main.specs.declared.options.FormatOption.{FormatOption}
 use Rattle.voice_main.specs.declared.options.FormatOption.TheVariants as options
 use Rattle.voice_main.specs.declared.options.Given.{Given}
-use Rattle.voice_main.specs.Options.{option_text, none_given, value_given, with_value, Gives}
+use Rattle.voice_main.specs.Options.{all_options, option_text, none_given, value_given, with_value, Gives}
 use Rattle.voice_main.specs.Commands.{format_app, number_parser}
+use Rattle.voice_main.proofs.Apart.{name_of, one_name, value_own, value_other}
 
-abbrev pub name_of : FormatOption → Text
-name_of options.Block = codes "block"
-name_of options.Blocks = codes "blocks"
-name_of options.Area = codes "area"
-name_of options.Grace = codes "grace"
-name_of options.Lanes = codes "lanes"
+-- the number that an option has where it isn't given, and its text; the grace of a class has none of its own
+abbrev pub default_of : FormatOption → Option ℕ
+default_of options.Block = Some 4096
+default_of options.Blocks = Some 15000
+default_of options.Area = Some 1048576
+default_of options.Grace = Some 86400
+default_of options.Held = None
+default_of options.Until = None
+default_of options.Listed = None
+default_of options.Lanes = Some 8
 
-abbrev pub default_of : FormatOption → ℕ
-default_of options.Block = 4096
-default_of options.Blocks = 15000
-default_of options.Area = 1048576
-default_of options.Grace = 86400
-default_of options.Lanes = 8
-
-abbrev default_text : FormatOption → Text
-default_text options.Block = codes "4096"
-default_text options.Blocks = codes "15000"
-default_text options.Area = codes "1048576"
-default_text options.Grace = codes "86400"
-default_text options.Lanes = codes "8"
+abbrev default_text : FormatOption → Option Text
+default_text options.Block = Some (codes "4096")
+default_text options.Blocks = Some (codes "15000")
+default_text options.Area = Some (codes "1048576")
+default_text options.Grace = Some (codes "86400")
+default_text options.Held = None
+default_text options.Until = None
+default_text options.Listed = None
+default_text options.Lanes = Some (codes "8")
 
 -- an option as clap builds it
-abbrev rule_at : FormatOption → Rule
-rule_at o = record (new_rule (name_of o)) {
+abbrev rule_with : FormatOption → Option Text → Rule
+rule_with o text = record (new_rule (name_of o)) {
   long = Some (name_of o);
   action = Some Set;
   range = Some (record { start_inclusive = 1; end_inclusive = 1 });
-  defaults = default_text o ∷ [];
+  defaults = option_to_list text;
   parser = Some number_parser;
 }
 
+abbrev rule_at : FormatOption → Rule
+rule_at o = rule_with o (default_text o)
+
 abbrev rules : List Rule
-rules = rule_at options.Block ∷ rule_at options.Blocks ∷ rule_at options.Area ∷ rule_at options.Grace ∷ rule_at options.Lanes ∷ []
+rules = map rule_at all_options
 
 abbrev top : Shape
 top = (built format_app).top
@@ -71,6 +76,9 @@ rule_is options.Block = refl
 rule_is options.Blocks = refl
 rule_is options.Area = refl
 rule_is options.Grace = refl
+rule_is options.Held = refl
+rule_is options.Until = refl
+rule_is options.Listed = refl
 rule_is options.Lanes = refl
 
 -- ---- numerals
@@ -117,6 +125,9 @@ is_own options.Block s text = refl
 is_own options.Blocks s text = refl
 is_own options.Area s text = refl
 is_own options.Grace s text = refl
+is_own options.Held s text = refl
+is_own options.Until s text = refl
+is_own options.Listed s text = refl
 is_own options.Lanes s text = refl
 
 or_none : (r : Option Row) → option_or r None ≡ r
@@ -177,31 +188,18 @@ stored_other : (o : FormatOption) (x : Row) (rows : List Row) (value : Option �
 stored_other o x rows value h miss = record { found = kept o x rows (given_row o value) h.found miss; few = h.few }
 
 stored_more : (given : Given) (o : FormatOption) (n : ℕ) (rows : List Row) → StoredAll given rows → find (is o) rows ≡ None → n ≤ 4294967295 → StoredAll (with_value o n given) (rows ++ row CommandLine o (decimal n) ∷ [])
-stored_more given options.Block n rows h none few options.Block = stored_own options.Block n rows none few
-stored_more given options.Block n rows h none few options.Blocks = stored_other options.Blocks (row CommandLine options.Block (decimal n)) rows (value_given options.Blocks given) (h options.Blocks) refl
-stored_more given options.Block n rows h none few options.Area = stored_other options.Area (row CommandLine options.Block (decimal n)) rows (value_given options.Area given) (h options.Area) refl
-stored_more given options.Block n rows h none few options.Grace = stored_other options.Grace (row CommandLine options.Block (decimal n)) rows (value_given options.Grace given) (h options.Grace) refl
-stored_more given options.Block n rows h none few options.Lanes = stored_other options.Lanes (row CommandLine options.Block (decimal n)) rows (value_given options.Lanes given) (h options.Lanes) refl
-stored_more given options.Blocks n rows h none few options.Block = stored_other options.Block (row CommandLine options.Blocks (decimal n)) rows (value_given options.Block given) (h options.Block) refl
-stored_more given options.Blocks n rows h none few options.Blocks = stored_own options.Blocks n rows none few
-stored_more given options.Blocks n rows h none few options.Area = stored_other options.Area (row CommandLine options.Blocks (decimal n)) rows (value_given options.Area given) (h options.Area) refl
-stored_more given options.Blocks n rows h none few options.Grace = stored_other options.Grace (row CommandLine options.Blocks (decimal n)) rows (value_given options.Grace given) (h options.Grace) refl
-stored_more given options.Blocks n rows h none few options.Lanes = stored_other options.Lanes (row CommandLine options.Blocks (decimal n)) rows (value_given options.Lanes given) (h options.Lanes) refl
-stored_more given options.Area n rows h none few options.Block = stored_other options.Block (row CommandLine options.Area (decimal n)) rows (value_given options.Block given) (h options.Block) refl
-stored_more given options.Area n rows h none few options.Blocks = stored_other options.Blocks (row CommandLine options.Area (decimal n)) rows (value_given options.Blocks given) (h options.Blocks) refl
-stored_more given options.Area n rows h none few options.Area = stored_own options.Area n rows none few
-stored_more given options.Area n rows h none few options.Grace = stored_other options.Grace (row CommandLine options.Area (decimal n)) rows (value_given options.Grace given) (h options.Grace) refl
-stored_more given options.Area n rows h none few options.Lanes = stored_other options.Lanes (row CommandLine options.Area (decimal n)) rows (value_given options.Lanes given) (h options.Lanes) refl
-stored_more given options.Grace n rows h none few options.Block = stored_other options.Block (row CommandLine options.Grace (decimal n)) rows (value_given options.Block given) (h options.Block) refl
-stored_more given options.Grace n rows h none few options.Blocks = stored_other options.Blocks (row CommandLine options.Grace (decimal n)) rows (value_given options.Blocks given) (h options.Blocks) refl
-stored_more given options.Grace n rows h none few options.Area = stored_other options.Area (row CommandLine options.Grace (decimal n)) rows (value_given options.Area given) (h options.Area) refl
-stored_more given options.Grace n rows h none few options.Grace = stored_own options.Grace n rows none few
-stored_more given options.Grace n rows h none few options.Lanes = stored_other options.Lanes (row CommandLine options.Grace (decimal n)) rows (value_given options.Lanes given) (h options.Lanes) refl
-stored_more given options.Lanes n rows h none few options.Block = stored_other options.Block (row CommandLine options.Lanes (decimal n)) rows (value_given options.Block given) (h options.Block) refl
-stored_more given options.Lanes n rows h none few options.Blocks = stored_other options.Blocks (row CommandLine options.Lanes (decimal n)) rows (value_given options.Blocks given) (h options.Blocks) refl
-stored_more given options.Lanes n rows h none few options.Area = stored_other options.Area (row CommandLine options.Lanes (decimal n)) rows (value_given options.Area given) (h options.Area) refl
-stored_more given options.Lanes n rows h none few options.Grace = stored_other options.Grace (row CommandLine options.Lanes (decimal n)) rows (value_given options.Grace given) (h options.Grace) refl
-stored_more given options.Lanes n rows h none few options.Lanes = stored_own options.Lanes n rows none few
+stored_more given o n rows h none few p = by (is p (row CommandLine o (decimal n))) refl
+  where
+    next : List Row
+    next = rows ++ row CommandLine o (decimal n) ∷ []
+
+    by : (b : Bool) → is p (row CommandLine o (decimal n)) ≡ b → Stored next p (value_given p (with_value o n given))
+    by true same =
+        let one : o ≡ p = one_name o p ((bytes_eq-Decides (name_of o) (name_of p)).0 same) in
+        subst (λ q. Stored next q (value_given q (with_value o n given))) one (subst (Stored next o) (sym (value_own o n given)) (stored_own o n rows none few))
+    by false miss =
+        let apart : p ≡ o → ⊥ = λ e. true≢false (sym (ap (λ q. is q (row CommandLine o (decimal n))) e ∙ is_own o CommandLine (decimal n)) ∙ miss) in
+        subst (Stored next p) (sym (value_other o p n given apart)) (stored_other p (row CommandLine o (decimal n)) rows (value_given p given) (h p) miss)
 
 -- ---- the walk
 
@@ -232,6 +230,9 @@ name_read rows last options.Block = refl
 name_read rows last options.Blocks = refl
 name_read rows last options.Area = refl
 name_read rows last options.Grace = refl
+name_read rows last options.Held = refl
+name_read rows last options.Until = refl
+name_read rows last options.Listed = refl
 name_read rows last options.Lanes = refl
 
 name_passes : (rows : List Row) (last : Option (FormatOption × ℕ)) (o : FormatOption) → turn_passes top [] (standing rows last) (option_text o) ≡ (settle_passes rules false (held rows last) && true)
@@ -239,6 +240,9 @@ name_passes rows last options.Block = refl
 name_passes rows last options.Blocks = refl
 name_passes rows last options.Area = refl
 name_passes rows last options.Grace = refl
+name_passes rows last options.Held = refl
+name_passes rows last options.Until = refl
+name_passes rows last options.Listed = refl
 name_passes rows last options.Lanes = refl
 
 plain_read : (rows : List Row) (o : FormatOption) (x : ℕ) (xs : Text) → (x == 45) ≡ false → walked rules [] (after_name rows o) (x ∷ xs) ≡ after_value rows o (x ∷ xs)
@@ -247,6 +251,9 @@ plain_read rows options.Block x xs e = rw e (rw e refl)
 plain_read rows options.Blocks x xs e = rw e (rw e refl)
 plain_read rows options.Area x xs e = rw e (rw e refl)
 plain_read rows options.Grace x xs e = rw e (rw e refl)
+plain_read rows options.Held x xs e = rw e (rw e refl)
+plain_read rows options.Until x xs e = rw e (rw e refl)
+plain_read rows options.Listed x xs e = rw e (rw e refl)
 plain_read rows options.Lanes x xs e = rw e (rw e refl)
 
 plain_passes : (rows : List Row) (o : FormatOption) (x : ℕ) (xs : Text) → (x == 45) ≡ false → turn_passes top [] (after_name rows o) (x ∷ xs) ≡ true
@@ -254,6 +261,9 @@ plain_passes rows options.Block x xs e = rw e (rw e refl)
 plain_passes rows options.Blocks x xs e = rw e (rw e refl)
 plain_passes rows options.Area x xs e = rw e (rw e refl)
 plain_passes rows options.Grace x xs e = rw e (rw e refl)
+plain_passes rows options.Held x xs e = rw e (rw e refl)
+plain_passes rows options.Until x xs e = rw e (rw e refl)
+plain_passes rows options.Listed x xs e = rw e (rw e refl)
 plain_passes rows options.Lanes x xs e = rw e (rw e refl)
 
 value_read : (rows : List Row) (o : FormatOption) (text : Text) → IsNumeral 10 text → walked rules [] (after_name rows o) text ≡ after_value rows o text
@@ -333,6 +343,9 @@ stored_none options.Block = record { found = refl; few = tt }
 stored_none options.Blocks = record { found = refl; few = tt }
 stored_none options.Area = record { found = refl; few = tt }
 stored_none options.Grace = record { found = refl; few = tt }
+stored_none options.Held = record { found = refl; few = tt }
+stored_none options.Until = record { found = refl; few = tt }
+stored_none options.Listed = record { found = refl; few = tt }
 stored_none options.Lanes = record { found = refl; few = tt }
 
 walks : (words : List Text) (end : Given) → Gives none_given words end → Walks (standing [] None) words end
@@ -340,79 +353,107 @@ walks words end gives = walk_on none_given words end [] None gives stored_none r
 
 -- ---- defaults
 
-defaulted : (o : FormatOption) (rows : List Row) (r : Option Row) → find (is o) rows ≡ r → find (is o) (with_default rows (rule_at o)) ≡ Some (unwrap_or r (row DefaultValue o (default_text o)))
-defaulted o rows None e =
-    ap (λ b. find (is o) (cond b rows (default_rows (name_of o) WithoutMinus (default_text o ∷ []) rows))) (has_none o rows e)
-    ∙ ap (find (is o)) (at_end o (more_values DefaultValue (default_text o ∷ [])) (row DefaultValue o (default_text o) ∷ []) rows e)
-    ∙ added o (row DefaultValue o (default_text o)) rows e (is_own o DefaultValue (default_text o))
-defaulted o rows (Some x) e = ap (λ b. find (is o) (cond b rows (default_rows (name_of o) WithoutMinus (default_text o ∷ []) rows))) (has_some o x rows e) ∙ e
+abbrev alike : FormatOption → FormatOption → Bool
+alike o p = bytes_eq (name_of p) (name_of o)
 
-undisturbed : (p o : FormatOption) (rows : List Row) (r : Option Row) → is o (row DefaultValue p (default_text p)) ≡ false → find (is o) rows ≡ r → find (is o) (with_default rows (rule_at p)) ≡ r
-undisturbed p o rows r differs e = by (find (is p) rows) refl
+abbrev default_row : FormatOption → Option Text → Option Row
+default_row o = option_map (row DefaultValue o)
+
+same_both : {X : Type 0} (b : Bool) (x : X) → cond b x x ≡ x
+same_both true x = refl
+same_both false x = refl
+
+or_cond : (b : Bool) (r : Option Row) (x : Row) → option_or r (cond b (Some x) None) ≡ cond b (option_or r (Some x)) r
+or_cond true r x = refl
+or_cond false r x = or_none r
+
+kept_found : (b : Bool) (r : Option Row) (x y : Row) → (b ≡ true → r ≡ Some x) → r ≡ cond b (option_or r (Some y)) r
+kept_found true r x y h = h refl ∙ sym (ap (λ f. option_or f (Some y)) (h refl))
+kept_found false r x y h = refl
+
+found_alike : (o p : FormatOption) (rows : List Row) → alike o p ≡ true → find (is o) rows ≡ find (is p) rows
+found_alike o p rows same = ap (λ name. find (λ r. bytes_eq r.id name) rows) (sym ((bytes_eq-Decides (name_of p) (name_of o)).0 same))
+
+-- what is found for o once p has got its default
+one_default : (o p : FormatOption) (text : Option Text) (rows : List Row) (r : Option Row) → find (is o) rows ≡ r → find (is o) (with_default rows (rule_with p text)) ≡ cond (alike o p) (option_or r (default_row p text)) r
+one_default o p None rows r e = ap (find (is o)) (same_both (has_row (name_of p) rows) rows) ∙ e ∙ sym (ap (λ f. cond (alike o p) f r) (or_none r) ∙ same_both (alike o p) r)
+one_default o p (Some text) rows r e = by (find (is p) rows) refl
   where
-    by : (f : Option Row) → find (is p) rows ≡ f → find (is o) (with_default rows (rule_at p)) ≡ r
+    by : (f : Option Row) → find (is p) rows ≡ f → find (is o) (with_default rows (rule_with p (Some text))) ≡ cond (alike o p) (option_or r (Some (row DefaultValue p text))) r
     by None none =
-        ap (λ b. find (is o) (cond b rows (default_rows (name_of p) WithoutMinus (default_text p ∷ []) rows))) (has_none p rows none)
-        ∙ ap (find (is o)) (at_end p (more_values DefaultValue (default_text p ∷ [])) (row DefaultValue p (default_text p) ∷ []) rows none)
-        ∙ kept o (row DefaultValue p (default_text p)) rows r e differs
-    by (Some x) some = ap (λ b. find (is o) (cond b rows (default_rows (name_of p) WithoutMinus (default_text p ∷ []) rows))) (has_some p x rows some) ∙ e
+        ap (λ b. find (is o) (cond b rows (default_rows (name_of p) WithoutMinus (text ∷ []) rows))) (has_none p rows none)
+        ∙ ap (find (is o)) (at_end p (more_values DefaultValue (text ∷ [])) (row DefaultValue p text ∷ []) rows none)
+        ∙ find-append (is o) rows (row DefaultValue p text ∷ []) ∙ ap (λ f. option_or f (cond (alike o p) (Some (row DefaultValue p text)) None)) e ∙ or_cond (alike o p) r (row DefaultValue p text)
+    by (Some x) some =
+        ap (λ b. find (is o) (cond b rows (default_rows (name_of p) WithoutMinus (text ∷ []) rows))) (has_some p x rows some) ∙ e
+        ∙ kept_found (alike o p) r x (row DefaultValue p text) (λ same. sym e ∙ found_alike o p rows same ∙ some)
 
-abbrev after_one : List Row → List Row
-after_one rows = with_default rows (rule_at options.Block)
+abbrev after : FormatOption → Option Row → FormatOption → Option Row
+after o r p = cond (alike o p) (option_or r (default_row p (default_text p))) r
 
-abbrev after_two : List Row → List Row
-after_two rows = with_default (after_one rows) (rule_at options.Blocks)
+all_defaults : (o : FormatOption) (given : List FormatOption) (rows : List Row) (r : Option Row) → find (is o) rows ≡ r → find (is o) (fold with_default rows (map rule_at given)) ≡ fold (after o) r given
+all_defaults o [] rows r e = e
+all_defaults o (p ∷ given) rows r e = all_defaults o given (with_default rows (rule_at p)) (after o r p) (one_default o p (default_text p) rows r e)
 
-abbrev after_three : List Row → List Row
-after_three rows = with_default (after_two rows) (rule_at options.Area)
-
-abbrev after_four : List Row → List Row
-after_four rows = with_default (after_three rows) (rule_at options.Grace)
-
-all_defaulted : (rows : List Row) (o : FormatOption) (r : Option Row) → find (is o) rows ≡ r → find (is o) (fold with_default rows rules) ≡ Some (unwrap_or r (row DefaultValue o (default_text o)))
-all_defaulted rows options.Block r e = undisturbed options.Lanes options.Block (after_four rows) (Some (unwrap_or r (row DefaultValue options.Block (default_text options.Block)))) refl (undisturbed options.Grace options.Block (after_three rows) (Some (unwrap_or r (row DefaultValue options.Block (default_text options.Block)))) refl (undisturbed options.Area options.Block (after_two rows) (Some (unwrap_or r (row DefaultValue options.Block (default_text options.Block)))) refl (undisturbed options.Blocks options.Block (after_one rows) (Some (unwrap_or r (row DefaultValue options.Block (default_text options.Block)))) refl (defaulted options.Block rows r e))))
-all_defaulted rows options.Blocks r e = undisturbed options.Lanes options.Blocks (after_four rows) (Some (unwrap_or r (row DefaultValue options.Blocks (default_text options.Blocks)))) refl (undisturbed options.Grace options.Blocks (after_three rows) (Some (unwrap_or r (row DefaultValue options.Blocks (default_text options.Blocks)))) refl (undisturbed options.Area options.Blocks (after_two rows) (Some (unwrap_or r (row DefaultValue options.Blocks (default_text options.Blocks)))) refl (defaulted options.Blocks (after_one rows) r (undisturbed options.Block options.Blocks rows r refl e))))
-all_defaulted rows options.Area r e = undisturbed options.Lanes options.Area (after_four rows) (Some (unwrap_or r (row DefaultValue options.Area (default_text options.Area)))) refl (undisturbed options.Grace options.Area (after_three rows) (Some (unwrap_or r (row DefaultValue options.Area (default_text options.Area)))) refl (defaulted options.Area (after_two rows) r (undisturbed options.Blocks options.Area (after_one rows) r refl (undisturbed options.Block options.Area rows r refl e))))
-all_defaulted rows options.Grace r e = undisturbed options.Lanes options.Grace (after_four rows) (Some (unwrap_or r (row DefaultValue options.Grace (default_text options.Grace)))) refl (defaulted options.Grace (after_three rows) r (undisturbed options.Area options.Grace (after_two rows) r refl (undisturbed options.Blocks options.Grace (after_one rows) r refl (undisturbed options.Block options.Grace rows r refl e))))
-all_defaulted rows options.Lanes r e = defaulted options.Lanes (after_four rows) r (undisturbed options.Grace options.Lanes (after_three rows) r refl (undisturbed options.Area options.Lanes (after_two rows) r refl (undisturbed options.Blocks options.Lanes (after_one rows) r refl (undisturbed options.Block options.Lanes rows r refl e))))
+own_default : (o : FormatOption) (r : Option Row) → fold (after o) r all_options ≡ option_or r (default_row o (default_text o))
+own_default options.Block r = refl
+own_default options.Blocks r = refl
+own_default options.Area r = refl
+own_default options.Grace r = refl
+own_default options.Held r = refl
+own_default options.Until r = refl
+own_default options.Listed r = refl
+own_default options.Lanes r = refl
 
 -- the text of a row, and its number
-default_reads : (o : FormatOption) → row_text (row DefaultValue o (default_text o)) ≡ Some (decimal (default_of o))
+default_reads : (o : FormatOption) → option_and_then row_text (default_row o (default_text o)) ≡ option_map decimal (default_of o)
 unfolding digits
 default_reads options.Block = refl
 default_reads options.Blocks = refl
 default_reads options.Area = refl
 default_reads options.Grace = refl
+default_reads options.Held = refl
+default_reads options.Until = refl
+default_reads options.Listed = refl
 default_reads options.Lanes = refl
 
-default_few : (o : FormatOption) → default_of o ≤ 4294967295
+default_few : (o : FormatOption) → IfSome (default_of o) (λ n. n ≤ 4294967295)
 default_few options.Block = omega arith
 default_few options.Blocks = omega arith
 default_few options.Area = omega arith
 default_few options.Grace = omega arith
+default_few options.Held = tt
+default_few options.Until = tt
+default_few options.Listed = tt
 default_few options.Lanes = omega arith
 
-row_reads : (o : FormatOption) (value : Option ℕ) → IfSome value (λ n. n ≤ 4294967295) → row_text (unwrap_or (given_row o value) (row DefaultValue o (default_text o))) ≡ Some (decimal (unwrap_or value (default_of o)))
+-- the number of an option, if it has one
+abbrev pub number_at : FormatOption → Option ℕ → Option ℕ
+number_at o value = option_or value (default_of o)
+
+row_reads : (o : FormatOption) (value : Option ℕ) → IfSome value (λ n. n ≤ 4294967295) → option_and_then row_text (option_or (given_row o value) (default_row o (default_text o))) ≡ option_map decimal (number_at o value)
 row_reads o None few = default_reads o
 row_reads o (Some n) few = ap Some (unsigned (decimal n) (decimal_is_IsNumeral n (omega arith)).0).2
 
-number_few : (o : FormatOption) (value : Option ℕ) → IfSome value (λ n. n ≤ 4294967295) → unwrap_or value (default_of o) ≤ 4294967295
+number_few : (o : FormatOption) (value : Option ℕ) → IfSome value (λ n. n ≤ 4294967295) → IfSome (number_at o value) (λ n. n ≤ 4294967295)
 number_few o None few = default_few o
 number_few o (Some n) few = few
 
 -- ---- the whole
 
-pub record Read (words : List Text) (o : FormatOption) (n : ℕ) : Type 0 where
-  pub text : one_of (name_of o) (matches_of format_app (codes "format" ∷ words)) ≡ Some (decimal n)
-  pub few : n ≤ 4294967295
+-- the text that clap has for an option is its number's
+pub record Read (words : List Text) (o : FormatOption) (value : Option ℕ) : Type 0 where
+  pub text : one_of (name_of o) (matches_of format_app (codes "format" ∷ words)) ≡ option_map decimal value
+  pub few : IfSome value (λ n. n ≤ 4294967295)
 
-pub option_read : (words : List Text) (end : Given) → Gives none_given words end → (o : FormatOption) → Read words o (unwrap_or (value_given o end) (default_of o))
+pub option_read : (words : List Text) (end : Given) → Gives none_given words end → (o : FormatOption) → Read words o (number_at o (value_given o end))
 option_read words end gives o =
     let w = walks words end gives in
     let value = value_given o end in
     let ended : matches_of format_app (codes "format" ∷ words) ≡ fold with_default (seen w.rows w.last) rules = ap (λ (s : Walk). finished rules s.held) w.there in
+    let found = all_defaults o all_options (seen w.rows w.last) (given_row o value) (w.stored o).found ∙ own_default o (given_row o value) in
     record {
-      text = ap (one_of (name_of o)) ended ∙ ap (option_and_then row_text) (all_defaulted (seen w.rows w.last) o (given_row o value) (w.stored o).found) ∙ row_reads o value (w.stored o).few;
+      text = ap (one_of (name_of o)) ended ∙ ap (option_and_then row_text) found ∙ row_reads o value (w.stored o).few;
       few = number_few o value (w.stored o).few;
     }
 

@@ -1,5 +1,5 @@
 -- What `format` answers and leaves.
---     graces_by numbers      one grace for all classes
+--     graces_by numbers      the common grace and one for each class
 --     HasNumbers numbers shape      the shape has these numbers
 --     HasRoom numbers size      a disk of that size can have it
 --     Formats numbers bytes image      the image is the empty disk of that shape, made of these bytes
@@ -21,9 +21,9 @@ use Rattle.voice_main.specs.declared.status.Status.{Status}
 use Rattle.voice_main.specs.declared.status.Status.TheVariants.{Done, BadShape, DiskFault, NoMemory}
 use Rattle.voice_main.specs.Outside.{Outside}
 
--- one grace for all classes
+-- the common grace and one for each class
 abbrev pub graces_by : FormatNumbers → Graces
-graces_by numbers = record { common = numbers.grace; held = numbers.grace; until = numbers.grace; listed = numbers.grace }
+graces_by numbers = record { common = numbers.grace; held = numbers.held; until = numbers.until; listed = numbers.listed }
 
 -- a disk of that size can have the shape
 pub record HasRoom (numbers : FormatNumbers) (size : ℕ) : Type 0 where

@@ -1,8 +1,8 @@
 //! The numbers that clap assigns to the options of a `format`.
 
-ghost use Rattle.std.specs.Prelude.{◌≡◌, ℕ, Some, IfOk, IfErr, IfSome, false, map, string_bytes};
-ghost use Rattle.clap.specs.Words.{app_of, found_of, kind_of, rule_of};
-ghost use Rattle.voice_main.specs.Commands.{number_rule, format_app, HasNumber, Assigns};
+ghost use Rattle.std.specs.Prelude.{◌≡◌, ℕ, [], ◌∷◌, Some, None, IfOk, IfErr, IfSome, false, map, string_bytes};
+ghost use Rattle.clap.specs.Words.{app_of, found_of, kind_of, one_text, rule_of};
+ghost use Rattle.voice_main.specs.Commands.{number_rule, format_app, HasNumber, HasGrace, Assigns};
 ghost use Rattle.voice_main.specs.declared.options.FormatNumbers.{FormatNumbers as NumbersValue};
 ghost use Rattle.voice_main.specs.Words.{IsFormat};
 
@@ -11,14 +11,21 @@ use clap::error::ErrorKind;
 use clap::{Arg, ArgMatches, Command, Error, value_parser};
 use std::alloc::{AllocError, Global};
 
-fn number_option<'a>(alloc: Global, name: &'a str, default: &'a str) -> Arg<'a>
-    ensures rule { rule_of result ≡ number_rule name.entry.now default.entry.now }
+// An option with a number, and no default.
+fn bare_option<'a>(alloc: Global, name: &'a str) -> Arg<'a>
+    ensures rule { rule_of result ≡ number_rule name.entry.now [] }
     ensures local { result.global ≡ false }
 {
     Arg::new(alloc, name)
         .long(name)
         .value_parser(value_parser!(u32))
-        .default_value(default)
+}
+
+fn number_option<'a>(alloc: Global, name: &'a str, default: &'a str) -> Arg<'a>
+    ensures rule { rule_of result ≡ number_rule name.entry.now (default.entry.now ∷ []) }
+    ensures local { result.global ≡ false }
+{
+    bare_option(alloc, name).default_value(default)
 }
 
 // The command `format`, without subcommands, help or version.
@@ -32,6 +39,9 @@ fn format_command<'a>(alloc: Global) -> Result<Command<'a>, AllocError>
         .arg(number_option(alloc, "blocks", "15000"))?
         .arg(number_option(alloc, "area", "1048576"))?
         .arg(number_option(alloc, "grace", "86400"))?
+        .arg(bare_option(alloc, "held"))?
+        .arg(bare_option(alloc, "until"))?
+        .arg(bare_option(alloc, "listed"))?
         .arg(number_option(alloc, "lanes", "8"))
 }
 
@@ -45,19 +55,31 @@ fn format_matches<'a>(alloc: Global, words: &'a [String]) -> Result<ArgMatches<'
 }
 
 fn number_of(matches: &ArgMatches<'_>, name: &str) -> Option<u32>
-    ensures { (n : ℕ) → HasNumber (found_of matches.now) name.now n → result ≡ Some n }
+    ensures some { (n : ℕ) → HasNumber (found_of matches.now) name.now n → result ≡ Some n }
+    ensures none { one_text (found_of matches.now) name.now ≡ None → result ≡ None }
 {
     matches.get_one(name)
+}
+
+// The grace of a class, which is the common one where it has none.
+fn grace_of(matches: &ArgMatches<'_>, name: &str, common: u32) -> u32
+    ensures { (n : ℕ) → HasGrace (found_of matches.now) name.now common n → result ≡ n }
+{
+    number_of(matches, name).unwrap_or(common)
 }
 
 fn numbers_of(matches: &ArgMatches<'_>) -> Option<FormatNumbers>
     ensures { (numbers : NumbersValue) → Assigns (found_of matches.now) numbers → result ≡ Some numbers }
 {
+    let grace = number_of(matches, "grace")?;
     Some(FormatNumbers {
         block: number_of(matches, "block")?,
         blocks: number_of(matches, "blocks")?,
         area: number_of(matches, "area")?,
-        grace: number_of(matches, "grace")?,
+        grace,
+        held: grace_of(matches, "held", grace),
+        until: grace_of(matches, "until", grace),
+        listed: grace_of(matches, "listed", grace),
         lanes: number_of(matches, "lanes")?,
     })
 }

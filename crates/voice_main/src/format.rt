@@ -12,16 +12,16 @@ use voice_outside::Disk;
 use voice_store::Store;
 use voice_units::{BadShape, Graces, Shape};
 
-// The shape of these numbers, of the newest version, with one grace for all classes.
+// The shape of these numbers, of the newest version, with these four graces.
 fn shape_of(numbers: FormatNumbers, size: u64) -> Result<Shape, BadShape>
     ensures ok { IfOk result (λ shape. HasNumbers numbers shape × HasRoom numbers size) }
     ensures err { IfErr result (λ e. HasRoom numbers size → ⊥) }
 {
     let graces = Graces {
         common: numbers.grace,
-        held: numbers.grace,
-        until: numbers.grace,
-        listed: numbers.grace,
+        held: numbers.held,
+        until: numbers.until,
+        listed: numbers.listed,
     };
     Shape::new(
         2,

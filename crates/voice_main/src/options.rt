@@ -7,13 +7,16 @@ ghost use Rattle.voice_main.specs.Words.{IsFormat};
 
 use crate::numbers::number;
 
-/// The numbers of the shape that a `format` asks for.
+/// The numbers of the shape that a `format` asks for: `grace` is that of ropes that never had an interest, then one for each class.
 #[derive(Clone, Copy, Debug, PartialEq, Eq)]
 pub struct FormatNumbers {
     pub block: u32,
     pub blocks: u32,
     pub area: u32,
     pub grace: u32,
+    pub held: u32,
+    pub until: u32,
+    pub listed: u32,
     pub lanes: u32,
 }
 
@@ -23,14 +26,20 @@ pub enum FormatOption {
     Blocks,
     Area,
     Grace,
+    Held,
+    Until,
+    Listed,
     Lanes,
 }
 
-const ALL: [FormatOption; 5] = [
+const ALL: [FormatOption; 8] = [
     FormatOption::Block,
     FormatOption::Blocks,
     FormatOption::Area,
     FormatOption::Grace,
+    FormatOption::Held,
+    FormatOption::Until,
+    FormatOption::Listed,
     FormatOption::Lanes,
 ];
 
@@ -41,6 +50,9 @@ pub struct Given {
     pub blocks: Option<u32>,
     pub area: Option<u32>,
     pub grace: Option<u32>,
+    pub held: Option<u32>,
+    pub until: Option<u32>,
+    pub listed: Option<u32>,
     pub lanes: Option<u32>,
 }
 
@@ -53,6 +65,9 @@ impl FormatOption {
             FormatOption::Blocks => b"--blocks",
             FormatOption::Area => b"--area",
             FormatOption::Grace => b"--grace",
+            FormatOption::Held => b"--held",
+            FormatOption::Until => b"--until",
+            FormatOption::Listed => b"--listed",
             FormatOption::Lanes => b"--lanes",
         }
     }
@@ -74,6 +89,9 @@ impl Given {
             blocks: None,
             area: None,
             grace: None,
+            held: None,
+            until: None,
+            listed: None,
             lanes: None,
         }
     }
@@ -86,6 +104,9 @@ impl Given {
             FormatOption::Blocks => self.blocks,
             FormatOption::Area => self.area,
             FormatOption::Grace => self.grace,
+            FormatOption::Held => self.held,
+            FormatOption::Until => self.until,
+            FormatOption::Listed => self.listed,
             FormatOption::Lanes => self.lanes,
         }
     }
@@ -110,6 +131,18 @@ impl Given {
                 grace: Some(n),
                 ..self
             },
+            FormatOption::Held => Given {
+                held: Some(n),
+                ..self
+            },
+            FormatOption::Until => Given {
+                until: Some(n),
+                ..self
+            },
+            FormatOption::Listed => Given {
+                listed: Some(n),
+                ..self
+            },
             FormatOption::Lanes => Given {
                 lanes: Some(n),
                 ..self
@@ -132,11 +165,15 @@ impl Given {
     fn numbers(self) -> FormatNumbers
         ensures { result ≡ numbers_of self }
     {
+        let grace = self.grace.unwrap_or(86_400);
         FormatNumbers {
             block: self.block.unwrap_or(4096),
             blocks: self.blocks.unwrap_or(15000),
             area: self.area.unwrap_or(1_048_576),
-            grace: self.grace.unwrap_or(86_400),
+            grace,
+            held: self.held.unwrap_or(grace),
+            until: self.until.unwrap_or(grace),
+            listed: self.listed.unwrap_or(grace),
             lanes: self.lanes.unwrap_or(8),
         }
     }
@@ -161,7 +198,7 @@ fn given_by(words: &[String]) -> Option<Given>
     Some(given)
 }
 
-/// The numbers of the shape that the words `format` and its options ask for, each a default where no option gives it; `None` exactly for other words.
+/// The numbers of the shape that the words `format` and its options ask for, each a default where no option gives it, that of a class the common grace; `None` exactly for other words.
 pub fn format_numbers(words: &[String]) -> Option<FormatNumbers>
     ensures { MatchOption result ((numbers : NumbersValue) → IsFormat (map string_bytes words.now) numbers → ⊥) (IsFormat (map string_bytes words.now)) }
 {

@@ -6,7 +6,7 @@ ghost use Rattle.voice_model.specs.Follows.{Binding};
 ghost use Rattle.voice_store.specs.Shown.{Keeps, history_of, tapes_in};
 ghost use Rattle.script_lang.specs.Verbs.{is_built_verb};
 ghost use Rattle.script_lang.specs.Grammar.{verb_name};
-ghost use Rattle.script_lang.specs.Errands.{HasTape, HasItsRopes, SameValues};
+ghost use Rattle.script_lang.specs.Errands.{HasTape, HasItsRopes, IsInItsRange, SameValues};
 ghost use Rattle.script_lang.specs.Whole.{IsWhole};
 ghost use Rattle.voice_main.specs.Ordered.{InOrder, LineRan, LineBound, asked_entries, unset};
 ghost use Rattle.voice_server.specs.Kept.{GoesOn};
@@ -31,6 +31,7 @@ fn run_line<D: Disk, G: Gate>(
     requires verb { IsTrue (is_built_verb (verb_name line.now.verb)) }
     requires tape { HasTape (length tapes.now) line.now.verb }
     requires ropes { HasItsRopes line.now.verb }
+    requires range { IsInItsRange line.now.verb }
     requires least { 1 ≤ line.now.caller }
     requires most { line.now.caller ≤ 16 }
     ensures stands { (first : State) → Keeps D.told first store.old → Keeps D.told first store.new }

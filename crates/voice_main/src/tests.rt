@@ -75,6 +75,12 @@ fn scripts_print_their_replies(rt: HostRuntime) -> Result<(), Fail> {
             Status::Usage,
             "",
         ),
+        (
+            ["format", "--held", "8", "--grace", "8", "--held", "9"].as_slice(),
+            "",
+            Status::Usage,
+            "",
+        ),
         (["format"].as_slice(), "", Status::BadShape, ""),
         (
             ["format", "--lanes", "0", "--block", "12"].as_slice(),
@@ -131,89 +137,95 @@ fn faults_are_told(rt: HostRuntime) -> Result<(), Fail> {
     Ok(())
 }
 
+// The words of a line with one space between two of them.
+fn words_of(alloc: Global, line: &str) -> Result<Vec<String>, Fail> {
+    let mut all = Vec::new(alloc);
+    for word in line.split(' ') {
+        all.push(String::from_str(alloc, word)?)?;
+    }
+    Ok(all)
+}
+
 #[test]
 fn clap_assigns_the_numbers_of_the_words(rt: HostRuntime) -> Result<(), Fail> {
     let most = 4_294_967_295;
-    // The words, and the numbers of block, blocks, area, grace and lanes.
+    // The words, the numbers of block, blocks, area and lanes, and the graces: the common one, and those of the classes held, until and listed.
     let cases = [
-        (["format"].as_slice(), [4096, 15000, 1_048_576, 86_400, 8]),
         (
-            ["format", "--block", "512"].as_slice(),
-            [512, 15000, 1_048_576, 86_400, 8],
+            "format",
+            [4096, 15000, 1_048_576, 8],
+            [86_400, 86_400, 86_400, 86_400],
         ),
         (
-            ["format", "--blocks", "7"].as_slice(),
-            [4096, 7, 1_048_576, 86_400, 8],
+            "format --block 512",
+            [512, 15000, 1_048_576, 8],
+            [86_400, 86_400, 86_400, 86_400],
         ),
         (
-            ["format", "--area", "65536"].as_slice(),
-            [4096, 15000, 65_536, 86_400, 8],
+            "format --area 65536 --blocks 7",
+            [4096, 7, 65_536, 8],
+            [86_400, 86_400, 86_400, 86_400],
         ),
         (
-            ["format", "--grace", "0"].as_slice(),
-            [4096, 15000, 1_048_576, 0, 8],
+            "format --grace 0",
+            [4096, 15000, 1_048_576, 8],
+            [0, 0, 0, 0],
         ),
         (
-            ["format", "--lanes", "4294967295"].as_slice(),
-            [4096, 15000, 1_048_576, 86_400, most],
+            "format --held 1 --until 2 --listed 3",
+            [4096, 15000, 1_048_576, 8],
+            [86_400, 1, 2, 3],
         ),
         (
-            ["format", "--lanes", "1", "--block", "4294967295"].as_slice(),
-            [most, 15000, 1_048_576, 86_400, 1],
+            "format --held 60 --grace 5",
+            [4096, 15000, 1_048_576, 8],
+            [5, 60, 5, 5],
         ),
         (
-            [
-                "format", "--block", "1", "--blocks", "2", "--area", "3", "--grace", "4",
-                "--lanes", "5",
-            ]
-            .as_slice(),
-            [1, 2, 3, 4, 5],
+            "format --grace 5 --lanes 4294967295 --listed 0",
+            [4096, 15000, 1_048_576, most],
+            [5, 5, 5, 0],
         ),
         (
-            [
-                "format", "--lanes", "5", "--grace", "4", "--area", "3", "--blocks", "2",
-                "--block", "1",
-            ]
-            .as_slice(),
-            [1, 2, 3, 4, 5],
+            "format --until 4294967295 --block 4294967295",
+            [most, 15000, 1_048_576, 8],
+            [86_400, 86_400, most, 86_400],
         ),
         (
-            [
-                "format", "--area", "0", "--lanes", "0", "--blocks", "0", "--block", "0",
-                "--grace", "0",
-            ]
-            .as_slice(),
-            [0, 0, 0, 0, 0],
+            "format --block 1 --blocks 2 --area 3 --grace 4 --held 5 --until 6 --listed 7 --lanes 8",
+            [1, 2, 3, 8],
+            [4, 5, 6, 7],
         ),
         (
-            [
-                "format",
-                "--grace",
-                "4294967295",
-                "--blocks",
-                "4294967295",
-                "--area",
-                "4294967295",
-                "--block",
-                "4294967295",
-                "--lanes",
-                "4294967295",
-            ]
-            .as_slice(),
-            [most, most, most, most, most],
+            "format --lanes 8 --listed 7 --until 6 --held 5 --grace 4 --area 3 --blocks 2 --block 1",
+            [1, 2, 3, 8],
+            [4, 5, 6, 7],
+        ),
+        (
+            "format --area 0 --lanes 0 --blocks 0 --block 0 --grace 0",
+            [0, 0, 0, 0],
+            [0, 0, 0, 0],
+        ),
+        (
+            "format --grace 4294967295 --blocks 4294967295 --area 4294967295",
+            [4096, most, most, 8],
+            [most, most, most, most],
         ),
     ];
-    for (words, [block, blocks, area, grace, lanes]) in cases {
-        let words = strings(rt.alloc(), words)?;
+    for (line, [block, blocks, area, lanes], [grace, held, until, listed]) in cases {
+        let words = words_of(rt.alloc(), line)?;
         let wanted = Some(FormatNumbers {
             block,
             blocks,
             area,
             grace,
+            held,
+            until,
+            listed,
             lanes,
         });
-        assert_eq!(rt; format_numbers(&words), wanted);
-        assert_eq!(rt; assigned(rt.alloc(), &words), wanted);
+        assert_eq!(rt; format_numbers(&words), wanted, "{line}");
+        assert_eq!(rt; assigned(rt.alloc(), &words), wanted, "{line}");
     }
     Ok(())
 }

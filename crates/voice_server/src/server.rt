@@ -1,6 +1,7 @@
 //! Calls under turns.
 
 ghost use Rattle.std.specs.Prelude.{◌≡◌, ◌<◌, ◌≤◌, ◌+◌, length, IfOk, IfErr, OnErr, IsTrue};
+ghost use Rattle.voice_model.specs.Valid.{InRange};
 ghost use Rattle.voice_store.specs.Facts.{Adds, AddsLanding, TakesAreIn, HasRopes};
 ghost use Rattle.built_calls.specs.Built.{is_built};
 ghost use Rattle.turnstile.specs.Turns.{Begins};
@@ -58,6 +59,7 @@ impl<D: Disk> Hall<Standing<D>> {
         requires built { IsTrue (is_built call) }
         requires takes { TakesAreIn (tapes_of self.now) call }
         requires ropes { HasRopes call }
+        requires range { InRange call }
         ensures pass { IsPassOf self.now pass.new }
         ensures caller { pass.new.caller ≡ pass.old.caller }
         ensures seen { Begins (seen pass.old) (seen pass.new) }

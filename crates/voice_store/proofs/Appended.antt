@@ -13,12 +13,16 @@ use Rattle.voice_model.specs.Spelling.{change_in}
 use Rattle.voice_model.specs.Step.{state_after}
 use Rattle.voice_model.specs.Replay.{Rebuilt, acted}
 use Rattle.voice_model.specs.declared.calls.Call.{Call}
+use Rattle.voice_model.specs.declared.calls.Reply.{Reply}
 use Rattle.voice_model.specs.declared.calls.Reply.TheVariants as replies
 use Rattle.voice_model.specs.declared.calls.Why.TheVariants as why
 use Rattle.voice_model.specs.declared.calls.Entry.{Entry}
 use Rattle.voice_model.specs.declared.changes.Change.{Change}
 use Rattle.voice_model.proofs.ReadAgain.{spelled_is_read}
-use Rattle.next_ropes.specs.declared.NextRope.{NextRope}
+use Rattle.next_changes.specs.declared.NextChange.{NextChange}
+use Rattle.next_changes.specs.Next.{payload_of}
+use Rattle.next_changes.specs.Laws.{IsGiven}
+use Rattle.next_changes.proofs.Given.{given}
 use Rattle.recovery.specs.Shown.{Rebuilds}
 use Rattle.recovery.specs.declared.parts.Parts.{Parts}
 use Rattle.crash_laws.specs.Standing.{IsLater}
@@ -30,7 +34,7 @@ use Rattle.voice_store.specs.declared.inside.Doubted.{Doubted}
 use Rattle.voice_store.specs.Stood.{tapes_of, last_of, in_form, Fills, IsSeated, Stood}
 use Rattle.voice_store.specs.Ways.{FitsBehind}
 use Rattle.voice_store.specs.Trying.{Trying}
-use Rattle.voice_store.proofs.Tried.{said, done_reply, next_done, next_failed, next_waits, stood_done, stood_failed, stood_waits}
+use Rattle.voice_store.proofs.Tried.{said, next_done, next_failed, next_waits, stood_done, stood_failed, stood_waits}
 
 pub changed_shape : (form : ℕ) (d : Durable Tagged) (e : Effect Tagged) → (changed form d e).shape ≡ d.shape
 changed_shape form d (Recorded id samples) = refl
@@ -58,37 +62,40 @@ committed_by fits s effect =
 pub fits_behind : (s : State) (effect : Effect Tagged) → frame_size s.form s.kept.shape.block effect ≤ s.left → committed s s.form effect ≡ committed_by true s effect
 fits_behind s effect fits = ap (λ (b : Bool). committed_by b s effect) (le-leb (frame_size s.form s.kept.shape.block effect) s.left fits)
 
-module _ (first : State) (t0 : ℕ) (old new : Told) (s s' : Inside) (b : Rebuilt) (next : NextRope) (c : Change) (effect : Effect Tagged) (caller : ℕ) (call : Call)
-    (tr : Trying first t0 old s b next c effect caller call) (later : old.calls ≤ new.calls) (sizes : new.size ≡ old.size)
+module _ (first : State) (t0 : ℕ) (old new : Told) (s s' : Inside) (b : Rebuilt) (next : NextChange) (c : Change) (effect : Effect Tagged) (caller : ℕ) (call : Call) (reply : Reply)
+    (tr : Trying first t0 old s b next c effect caller call reply) (later : old.calls ≤ new.calls) (sizes : new.size ≡ old.size)
     (honest : IsTrue new.honest → IsTrue old.honest) (moments : IsTrue old.honest → IsLater old new) where
   abbrev end : State
   end = last_of first s
 
   abbrev pub entry_done : Entry
-  entry_done = said first t0 old new s s' b next c effect caller call tr later sizes (done_reply first t0 old new s s' b next c effect caller call tr later sizes)
+  entry_done = said first t0 old new s s' b next c effect caller call reply tr later sizes reply
 
   abbrev pub entry_failed : Entry
-  entry_failed = said first t0 old new s s' b next c effect caller call tr later sizes (replies.No why.DiskFault)
+  entry_failed = said first t0 old new s s' b next c effect caller call reply tr later sizes (replies.No why.DiskFault)
 
   abbrev pub entry_waits : Entry
-  entry_waits = said first t0 old new s s' b next c effect caller call tr later sizes (replies.No why.InDoubt)
+  entry_waits = said first t0 old new s s' b next c effect caller call reply tr later sizes (replies.No why.InDoubt)
 
   -- ---- it failed before it counted, in whatever way it went
 
   stays_durable : KeepsDurable end (state_after end (tapes_of s) entry_failed)
   stays_durable =
-      let is = next_failed first t0 old new s s' b next c effect caller call tr later sizes in
+      let is = next_failed first t0 old new s s' b next c effect caller call reply tr later sizes in
       record { kept = ap (λ (t : State). t.kept) is; doubt = ap (λ (t : State). t.doubt) is; form = ap (λ (t : State). t.form) is; left = ap (λ (t : State). t.left) is }
 
   pub failed_stood : s'.tapes ≡ s.tapes → s'.history.items ≡ s.history.items ++ entry_failed ∷ []
-      → s'.journal.shape ≡ s.journal.shape → s'.journal.seat ≡ s.journal.seat → s'.journal.doubt ≡ None → s'.doubt ≡ None → s'.base ≡ s.base → Rebuilds s'.parts b
+      → s'.journal.shape ≡ s.journal.shape → s'.journal.seat ≡ s.journal.seat → s'.journal.doubt ≡ None → s'.doubt ≡ None → Rebuilds s'.parts b
       → FailuresCarry old new → (IsTrue old.honest → Undoes s.journal s'.journal old new) → Stood first t0 new s'
-  failed_stood tapes items shape seat sure none size tables carry undoes =
-      stood_failed first t0 old new s s' b next c effect caller call tr later sizes tapes items shape seat sure none size tables
+  failed_stood tapes items shape seat sure none tables carry undoes =
+      stood_failed first t0 old new s s' b next c effect caller call reply tr later sizes tapes items shape seat sure none tables
       (λ h. let h' = honest h in
       carry.before first (tapes_of s) t0 s.journal s'.journal b b s.history.items entry_failed (moments h') (tr.upright.held h') tr.may.sure (undoes h') refl stays_durable)
 
-  module _ (payload : List ℕ) (payload_is : payload ≡ next.payload.items) (fits : FitsBehind end effect) (need : ℕ) (need_is : need ≡ base_size end.form (changed end.form end.kept effect)) where
+  abbrev gives : IsGiven s.parts b next c
+  gives = given s.parts b next c tr.ready
+
+  module _ (payload : List ℕ) (payload_is : payload ≡ payload_of next) (fits : FitsBehind end effect) where
     abbrev then : State
     then = committed end end.form effect
 
@@ -97,59 +104,59 @@ module _ (first : State) (t0 : ℕ) (old new : Told) (s s' : Inside) (b : Rebuil
 
     change : IsTrue old.honest → IsChange old.bytes end effect b payload c
     change h = record {
-      spelled = ap change_in (payload_is ∙ tr.ready.payload) ∙ spelled_is_read c tr.ready.grammar;
-      brings_it = tr.ready.kind;
-      legal = tr.ready.legal;
+      spelled = ap change_in (payload_is ∙ gives.payload) ∙ spelled_is_read c gives.grammar;
+      brings_it = gives.kind;
+      legal = gives.legal;
       does = tr.does h;
     }
 
     fills_then : Fills tr.later_fill (acted b c) then
     fills_then = subst (λ (t : State). Fills tr.later_fill (acted b c) t) (sym is_then)
-        (record { spots = tr.brings_it.spots; kept = tr.brings_it.kept; form = acted_form b c tr.ready.kind ∙ tr.upright.fills.form })
+        (record { spots = tr.brings_it.spots; kept = tr.brings_it.kept; form = acted_form b c gives.kind ∙ tr.upright.fills.form })
 
-    seated_then : IsSeated (record s.journal { seat = landed_seat s.journal.seat (Record (length payload)) }) need then
+    seated_then : IsSeated (record s.journal { seat = landed_seat s.journal.seat (Record (length payload)) }) then
     seated_then =
         let was = tr.upright.seated in
         let left = was.left in
         let frame = tr.frame in
         let long = fits.fits in
-        let size : length payload ≡ length next.payload.items = ap length payload_is in
-        subst (λ (t : State). IsSeated (record s.journal { seat = landed_seat s.journal.seat (Record (length payload)) }) need t) (sym is_then)
-        (record { shape = changed_shape end.form end.kept effect ∙ was.shape; left = omega (arith, left, frame, long, size); epoch = was.epoch; base = need_is })
+        let size : length payload ≡ length (payload_of next) = ap length payload_is in
+        subst (λ (t : State). IsSeated (record s.journal { seat = landed_seat s.journal.seat (Record (length payload)) }) t) (sym is_then)
+        (record { shape = changed_shape end.form end.kept effect ∙ was.shape; left = omega (arith, left, frame, long, size); epoch = was.epoch })
 
     committed_then : IsCommitted end effect end.form (state_after end (tapes_of s) entry_done)
     committed_then =
-        let is = next_done first t0 old new s s' b next c effect caller call tr later sizes ∙ is_then in
+        let is = next_done first t0 old new s s' b next c effect caller call reply tr later sizes ∙ is_then in
         record { kept = ap (λ (t : State). t.kept) is; doubt = ap (λ (t : State). t.doubt) is ∙ tr.may.sure; form = ap (λ (t : State). t.form) is }
 
     pub appended_stood : s'.tapes ≡ s.tapes → s'.history.items ≡ s.history.items ++ entry_done ∷ []
-        → s'.journal.shape ≡ s.journal.shape → s'.journal.seat ≡ landed_seat s.journal.seat (Record (length payload)) → s'.journal.doubt ≡ None → s'.doubt ≡ None → s'.base ≡ need
+        → s'.journal.shape ≡ s.journal.shape → s'.journal.seat ≡ landed_seat s.journal.seat (Record (length payload)) → s'.journal.doubt ≡ None → s'.doubt ≡ None
         → Rebuilds s'.parts (acted b c)
         → AppendsCarry old new → (IsTrue old.honest → Does (λ r. with_payload r payload) s.journal s'.journal old new × StaysWithin (λ r. with_payload r payload) s.journal old new)
         → Stood first t0 new s'
-    appended_stood tapes items shape seat sure none size tables carry does =
-        stood_done first t0 old new s s' b next c effect caller call tr later sizes (acted b c) (Record (length payload)) need tapes items shape seat sure none size tables fills_then seated_then
+    appended_stood tapes items shape seat sure none tables carry does =
+        stood_done first t0 old new s s' b next c effect caller call reply tr later sizes (acted b c) (Record (length payload)) tapes items shape seat sure none tables fills_then seated_then
         (λ h. let h' = honest h in let d = does h' in
         carry.ok first (tapes_of s) t0 s.journal s'.journal b b s.history.items effect payload c entry_done (moments h') (tr.upright.held h') tr.may.sure (change h') d.0 d.1 refl committed_then)
 
     waits_then : IsInDoubt end effect (state_after end (tapes_of s) entry_waits)
     waits_then =
-        let is = next_waits first t0 old new s s' b next c effect caller call tr later sizes in
+        let is = next_waits first t0 old new s s' b next c effect caller call reply tr later sizes in
         record { kept = ap (λ (t : State). t.kept) is; doubt = ap (λ (t : State). t.doubt) is; form = ap (λ (t : State). t.form) is; left = ap (λ (t : State). t.left) is }
 
     -- the tables once it lands
     in_form_then : (parts : Parts) → Rebuilds parts (acted b c) → Rebuilds (in_form s.parts.form parts) (acted b c)
-    in_form_then parts shows = subst (λ (f : ℕ). Rebuilds (in_form f parts) (acted b c)) (shows.in_form ∙ acted_form b c tr.ready.kind ∙ sym tr.ready.form) shows
+    in_form_then parts shows = subst (λ (f : ℕ). Rebuilds (in_form f parts) (acted b c)) (shows.in_form ∙ acted_form b c gives.kind ∙ sym gives.form) shows
 
-    pub append_waits : (doubted : Doubted) → doubted.next ≡ next → doubted.base ≡ need → doubted.form ≡ s.parts.form → s'.tapes ≡ s.tapes
+    pub append_waits : (doubted : Doubted) → doubted.next ≡ next → doubted.form ≡ s.parts.form → s'.tapes ≡ s.tapes
         → s'.history.items ≡ s.history.items ++ entry_waits ∷ []
-        → s'.journal.shape ≡ s.journal.shape → s'.journal.seat ≡ s.journal.seat → s'.journal.doubt ≡ Some (Record (length payload)) → s'.doubt ≡ Some doubted → s'.base ≡ s.base → s'.parts ≡ s.parts
+        → s'.journal.shape ≡ s.journal.shape → s'.journal.seat ≡ s.journal.seat → s'.journal.doubt ≡ Some (Record (length payload)) → s'.doubt ≡ Some doubted → s'.parts ≡ s.parts
         → AppendsCarry old new → (IsTrue old.honest → Doubts (λ r. with_payload r payload) s.journal s'.journal old new × StaysWithin (λ r. with_payload r payload) s.journal old new)
         → Stood first t0 new s'
-    append_waits doubted same base form tapes items shape seat unsure some size parts carry doubts =
-        stood_waits first t0 old new s s' b next c effect caller call tr later sizes (acted b c) (Record (length payload)) doubted same tapes items shape seat unsure some size parts
+    append_waits doubted same form tapes items shape seat unsure some parts carry doubts =
+        stood_waits first t0 old new s s' b next c effect caller call reply tr later sizes (acted b c) (Record (length payload)) doubted same tapes items shape seat unsure some parts
         (λ p shows. subst (λ (f : ℕ). Rebuilds (in_form f p) (acted b c)) (sym form) (in_form_then p shows))
         fills_then
-        (subst (λ (n : ℕ). IsSeated (record s.journal { seat = landed_seat s.journal.seat (Record (length payload)) }) n then) (sym base) seated_then)
+        seated_then
         (λ h. let h' = honest h in let d = doubts h' in
         carry.doubt first (tapes_of s) t0 s.journal s'.journal b b s.history.items effect payload c entry_waits (moments h') (tr.upright.held h') tr.may.sure (change h') d.0 d.1 refl (fits.fits, waits_then))

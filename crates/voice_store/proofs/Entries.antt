@@ -88,7 +88,7 @@ module _ (first : State) (t0 : ℕ) (disk : Told) (s : Inside) (history : Vec En
           valid = subst (λ (t : State). IsState t) (sym more.last) stood.upright.valid;
           quiet = subst (λ (t : State). AreQuiet t.lanes) (sym more.last) stood.upright.quiet;
           fills = subst (λ (t : State). Fills stood.fill stood.b t) (sym more.last) stood.upright.fills;
-          seated = subst (λ (t : State). IsSeated s.journal s.base t) (sym more.last) stood.upright.seated;
+          seated = subst (λ (t : State). IsSeated s.journal t) (sym more.last) stood.upright.seated;
           acks = more.acks;
           held = more.held;
         };

@@ -15,7 +15,6 @@ use Rattle.voice_journal.specs.declared.lists.Placed.{Placed}
 use Rattle.voice_journal.specs.declared.opening.Opened.{Opened}
 use Rattle.voice_model.specs.State.{State, opened, quiet_lane}
 use Rattle.voice_model.specs.Step.{Legal, after}
-use Rattle.voice_model.specs.Changes.{base_size}
 use Rattle.voice_model.specs.Replay.{Rebuilt, nothing_rebuilt, filled, recovered}
 use Rattle.voice_model.specs.Image.{Replayed, Reading, replayed, reading, opened_from}
 use Rattle.voice_model.specs.Valid.{IsState}
@@ -131,10 +130,10 @@ module _ (t0 : ℕ) (bytes : List ℕ) (disk : Told) (s : Inside) (b : Rebuilt) 
   of_last P p = subst P (sym still_first) p
 
   pub stood_first : replayed (nothing_rebuilt s.journal.shape) (records_of ps) ≡ Replayed.All b → Rebuilds s.parts b → s.doubt ≡ None → s.journal.doubt ≡ None
-      → 16 ≤ s.journal.seat.gate → s.journal.seat.gate < s.journal.shape.area → s.base ≡ base_size b.form (recovered bytes b)
+      → 16 ≤ s.journal.seat.gate → s.journal.seat.gate < s.journal.shape.area
       → t0 ≤ disk.calls → extent s.journal.shape ≤ disk.size → (IsTrue disk.honest → IsHeld begin (tapes_of s) t0 s.journal disk b b [])
       → Stood begin t0 disk s
-  stood_first rebuilds tables none sure from within base past size held = record {
+  stood_first rebuilds tables none sure from within past size held = record {
     fill = filled bytes b;
     b = b;
     after = b;
@@ -143,11 +142,10 @@ module _ (t0 : ℕ) (bytes : List ℕ) (disk : Told) (s : Inside) (b : Rebuilt) 
       valid = of_last (λ t. IsState t) (first_valid bytes s.journal.shape ps b (s.journal.shape.area - 1 - s.journal.seat.gate) s.journal.seat.epoch rebuilds (omega (arith, from, within)));
       quiet = of_last (λ t. AreQuiet t.lanes) (ap (λ (n : ℕ). replicate n quiet_lane) (sym (length-replicate begin.kept.shape.lanes quiet_lane)));
       fills = of_last (λ t. Fills (filled bytes b) b t) (record { spots = λ x. refl; kept = refl; form = refl });
-      seated = of_last (λ t. IsSeated s.journal s.base t) (record {
+      seated = of_last (λ t. IsSeated s.journal t) (record {
         shape = shape_rebuilt s.journal.shape ps b rebuilds;
         left = omega (arith, from, within);
         epoch = refl;
-        base = base;
       });
       acks = subst (λ (l : List Entry). AcksRise t0 l disk.calls) (sym items) past;
       held = λ honest. subst (λ (l : List Entry). IsHeld begin (tapes_of s) t0 s.journal disk b b l) (sym items) (held honest);

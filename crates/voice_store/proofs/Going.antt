@@ -12,12 +12,16 @@ use Rattle.voice_model.specs.Base.{base_of}
 use Rattle.voice_model.specs.Base as changes
 use Rattle.voice_model.specs.Places.{AllUsed}
 use Rattle.voice_model.specs.declared.calls.Call.{Call}
+use Rattle.voice_model.specs.declared.calls.Reply.{Reply}
 use Rattle.voice_model.specs.declared.changes.Change.{Change}
 use Rattle.voice_model.proofs.PlacesKept.{placed_next}
 use Rattle.voice_model.proofs.BaseSize.{base_sized}
 use Rattle.fillings.proofs.Acted.{used_acted}
 use Rattle.crash_laws.proofs.Commits.{acted_form}
-use Rattle.next_ropes.specs.declared.NextRope.{NextRope}
+use Rattle.next_changes.specs.declared.NextChange.{NextChange}
+use Rattle.next_changes.specs.Next.{payload_of}
+use Rattle.next_changes.specs.Laws.{IsGiven}
+use Rattle.next_changes.proofs.Given.{given}
 use Rattle.voice_store.specs.declared.inside.Inside.{Inside}
 use Rattle.voice_store.specs.declared.committing.Base.{Base}
 use Rattle.voice_store.specs.declared.committing.Plan.{Plan}
@@ -27,8 +31,8 @@ use Rattle.voice_store.specs.Ways.{FitsBehind, FitsOther}
 use Rattle.voice_store.specs.Trying.{Trying, IsPlan, IsBaseOf, CanGo, form_taken}
 use Rattle.voice_store.proofs.Refused.{wrong}
 
-module _ (first : State) (t0 : ℕ) (disk : Told) (s : Inside) (b : Rebuilt) (next : NextRope) (c : Change) (effect : Effect Tagged) (caller : ℕ) (call : Call)
-    (h : Trying first t0 disk s b next c effect caller call) (most : s.journal.seat.epoch ≤ 2 ^ 48) where
+module _ (first : State) (t0 : ℕ) (disk : Told) (s : Inside) (b : Rebuilt) (next : NextChange) (c : Change) (effect : Effect Tagged) (caller : ℕ) (call : Call) (reply : Reply)
+    (h : Trying first t0 disk s b next c effect caller call reply) (most : s.journal.seat.epoch ≤ 2 ^ 48) where
   abbrev last : State
   last = last_of first s
 
@@ -38,20 +42,23 @@ module _ (first : State) (t0 : ℕ) (disk : Told) (s : Inside) (b : Rebuilt) (ne
   abbrev most_bytes : ℕ
   most_bytes = s.journal.shape.area - 17
 
-  can_append : FitsBehind last effect → s.journal.seat.gate + 5 + length next.payload.items < s.journal.shape.area
+  can_append : FitsBehind last effect → s.journal.seat.gate + 5 + length (payload_of next) < s.journal.shape.area
   can_append behind =
       let fits = behind.fits in
       let left = h.upright.seated.left in
       let size = h.frame in
       omega (arith, fits, left, size)
 
+  abbrev gives : IsGiven s.parts b next c
+  gives = given s.parts b next c h.ready
+
   sized : (form : ℕ) → changes.framed_size (base_of form r) ≡ base_size form (changed last.form last.kept effect)
   sized form =
-      base_sized h.later_fill h.brings_it.spots form r (placed_next b c h.ready.placed h.ready.legal h.ready.grammar) (subst (λ x. AllUsed (acted b x)) (sym h.change) (used_acted b b.form h.addresses effect))
+      base_sized h.later_fill h.brings_it.spots form r (placed_next b c gives.placed gives.legal gives.grammar) (subst (λ x. AllUsed (acted b x)) (sym h.change) (used_acted b b.form h.addresses effect))
       ∙ ap (base_size form) h.brings_it.kept
 
   same_form : r.form ≡ last.form
-  same_form = acted_form b c h.ready.kind ∙ h.upright.fills.form
+  same_form = acted_form b c gives.kind ∙ h.upright.fills.form
 
   some_bytes : (form : ℕ) → 1 ≤ changes.framed_size (base_of form r)
   some_bytes form = omega arith
@@ -83,5 +90,5 @@ module _ (first : State) (t0 : ℕ) (disk : Told) (s : Inside) (b : Rebuilt) (ne
       below x y le ne = grind (arith, le, ne)
 
   pub can_go : (plan : Plan) → IsPlan s.journal last effect r plan → CanGo s.journal next plan
-  can_go (plans.Append need) is = can_append is.0
+  can_go plans.Append is = can_append is
   can_go (plans.Switch base) is = can_switch base is.0 is.1

@@ -18,6 +18,7 @@ use Rattle.voice_model.specs.Replay.{Rebuilt, acted, durable_by, effect_by, used
 use Rattle.voice_model.specs.Base.{change_of}
 use Rattle.voice_model.specs.Valid.{MayFit, IsNextRope}
 use Rattle.voice_model.specs.declared.calls.Call.{Call}
+use Rattle.voice_model.specs.declared.calls.Reply.{Reply}
 use Rattle.voice_model.specs.declared.calls.Reply.TheVariants as replies
 use Rattle.voice_model.specs.declared.calls.Why.TheVariants as why
 use Rattle.voice_model.specs.declared.changes.Change.TheVariants as kinds
@@ -27,7 +28,7 @@ use Rattle.voice_model.proofs.FitsOfCalls.{fit_call}
 use Rattle.voice_model.proofs.LegalInReplay.{acted_again}
 use Rattle.rope_table.specs.Table.{uses_at}
 use Rattle.recovery.specs.declared.parts.Parts.{Parts}
-use Rattle.recovery.specs.Shown.{Rebuilds}
+use Rattle.recovery.specs.Shown.{Rebuilds, Shows}
 use Rattle.recovery.proofs.Showing.{used_shown}
 use Rattle.edits.specs.Shown.{IsRopeOf}
 use Rattle.edits.proofs.Refusals.{journal_last}
@@ -40,6 +41,7 @@ use Rattle.crash_laws.specs.Foundations.{Foundations}
 use Rattle.crash_laws.specs.Standing.{IsHonest, IsHeld}
 use Rattle.crash_laws.proofs.Opened.{standing_gives}
 use Rattle.next_ropes.specs.Ready.{IsReady}
+use Rattle.next_changes.specs.declared.NextChange.TheVariants as changes
 use Rattle.next_ropes.specs.declared.NextRope.{NextRope}
 use Rattle.next_ropes.proofs.Readied.{AreUsed}
 use Rattle.voice_store.specs.declared.inside.Inside.{Inside}
@@ -50,7 +52,7 @@ use Rattle.voice_store.specs.Ways.{IsWay}
 use Rattle.voice_store.specs.Trying.{Trying}
 use Rattle.voice_store.specs.Keeping.{MakesRope, HasWay}
 use Rattle.voice_store.proofs.Refused.{wrong, kept_again}
-use Rattle.voice_store.proofs.Making.{IsMaking, edit_makes, may_commit}
+use Rattle.voice_store.proofs.Making.{IsMaking, edit_makes, edit_reply, may_commit}
 use Rattle.voice_store.proofs.Again.{filled_again, timely_edit}
 
 -- ---- nothing is in doubt
@@ -98,6 +100,13 @@ module _ (first : State) (t0 : ℕ) (disk : Told) (s : Inside) (stood : Stood fi
   pub same_form : s.parts.form ≡ (last_of first s).form
   same_form = is_sure.tables.in_form ∙ stood.upright.fills.form
 
+  -- the base of the tables is as long as that of the state
+  pub base_now : (size : ℕ) → ((held : List (List Piece)) (d : Durable Spot) (fill : Spot → Tagged) → Shows held s.parts d → ((x : Spot) → spot_of (fill x) ≡ x) → size ≡ base_size s.parts.form (durable_by fill d))
+      → size ≡ base_size (last_of first s).form (last_of first s).kept
+  base_now size told =
+      told [] stood.b.kept stood.fill is_sure.tables.kept stood.upright.fills.spots
+      ∙ ap (λ f. base_size f (durable_by stood.fill stood.b.kept)) same_form ∙ ap (base_size (last_of first s).form) stood.upright.fills.kept
+
 -- ---- an edit, before the journal is asked
 
 module _ (first : State) (t0 : ℕ) (disk : Told) (s : Inside) (call : Call) (pieces : List Piece) (h : MakesRope first t0 disk s call pieces) where
@@ -110,9 +119,8 @@ module _ (first : State) (t0 : ℕ) (disk : Told) (s : Inside) (call : Call) (pi
   pub frame_of : 16 + 16 * length pieces ≡ frame_size last.form last.kept.shape.block effect
   frame_of = subst (λ (ps : List Piece). 16 + 16 * length ps ≡ 5 + (11 + 16 * length (pieces_in h.rope.samples))) (sym h.rope.same) (omega arith)
 
-  pub need_of : (n : ℕ) → n ≡ 24 + cond (s.parts.form == 2) 1 0 + 16 * length pieces → s.base + n ≡ base_size last.form (changed last.form last.kept effect)
-  need_of n is =
-      let base = h.stood.upright.seated.base in
+  pub need_of : (now n : ℕ) → now ≡ base_size last.form last.kept → n ≡ 24 + cond (s.parts.form == 2) 1 0 + 16 * length pieces → now + n ≡ base_size last.form (changed last.form last.kept effect)
+  need_of now n base is =
       let rope : 24 + cond (s.parts.form == 2) 1 0 + 16 * length pieces ≡ 24 + cond (last.form == 2) 1 0 + 16 * length (pieces_in h.rope.samples) =
       ap (λ f. 24 + cond (f == 2) 1 0 + 16 * length pieces) (same_form first t0 disk s h.stood h.sure) ∙ ap (λ (ps : List Piece). 24 + cond (last.form == 2) 1 0 + 16 * length ps) h.rope.same in
       ap (λ x. x + n) base ∙ ap (λ x. base_size last.form last.kept + x) (is ∙ rope)
@@ -126,8 +134,8 @@ module _ (first : State) (t0 : ℕ) (disk : Told) (s : Inside) (call : Call) (pi
   pub refused_not : is_journal_full last effect ≡ false → refusal last (tapes_of s) call ≡ None
   refused_not free = journal_last.late last (tapes_of s) call h.rope.unrefused ∙ ap (if_full last) h.rope.effect ∙ ap (λ b. when b (journal_full last effect)) free
 
-  pub has_way : (need : ℕ) (way : Way) → need ≡ base_size last.form (changed last.form last.kept effect) → IsWay last effect way → is_journal_full last effect ≡ false → HasWay first t0 disk s call pieces need way
-  has_way need way is ways free = record { makes = h; goes = ways; free = free; needs = is }
+  pub has_way : (way : Way) → IsWay last effect way → is_journal_full last effect ≡ false → HasWay first t0 disk s call pieces way
+  has_way way ways free = record { makes = h; goes = ways; free = free }
 
 -- ---- an edit that the journal does not refuse
 
@@ -137,7 +145,7 @@ each_had others (p ∷ pairs) h q e =
     let parts = both (has_pair others p) (list_all (has_pair others) pairs) h in
     or_cases (same_pair q p) (has_pair pairs q) (λ k. ap (has_pair others) (same_pair-true q p k) ∙ parts.0) (λ k. each_had others pairs parts.1 q k) e
 
-module _ (first : State) (t0 : ℕ) (disk : Told) (s : Inside) (call : Call) (pieces : List Piece) (need : ℕ) (way : Way) (h : HasWay first t0 disk s call pieces need way) where
+module _ (first : State) (t0 : ℕ) (disk : Told) (s : Inside) (call : Call) (pieces : List Piece) (way : Way) (h : HasWay first t0 disk s call pieces way) where
   abbrev now : State
   now = last_of first s
 
@@ -202,12 +210,13 @@ module _ (first : State) (t0 : ℕ) (disk : Told) (s : Inside) (call : Call) (pi
   reply_is next id same =
       let len : length rope.samples ≡ samples_in next.pieces =
       sym (ap samples_in same ∙ places_length (spots_of pieces) ∙ ap length (ap spots_of rope.same ∙ spots_of-runs nowhere (spots_in_rope rope.samples)) ∙ length-map rope.samples spot_of) in
-      making.reply ∙ ap (λ o. replies.Rope now.next (samples_made o now)) rope.effect ∙ ap (replies.Rope now.next) len
+      edit_reply now (tapes_of s) call h.makes.edits ∙ ap (λ o. replies.Rope now.next (samples_made o now)) rope.effect ∙ ap (replies.Rope now.next) len
       ∙ ap (λ n. replies.Rope n (samples_in next.pieces)) (sym (id ∙ same_number first t0 disk s h.makes.stood h.makes.sure))
 
   pub trying : Foundations → (IsTrue disk.honest → IsHonest disk) → (caller : ℕ) (parts : Parts) (next : NextRope) → IsReady parts b next (kinds.Edited b.next pieces)
-      → Trying first t0 disk (record s { parts = parts }) b next (kinds.Edited b.next pieces) made caller call
-  trying laws honest caller parts next ready =
+      → (reply : Reply) → reply ≡ replies.Rope next.id (samples_in next.pieces)
+      → Trying first t0 disk (record s { parts = parts }) b (changes.Rope next) (kinds.Edited b.next pieces) made caller call reply
+  trying laws honest caller parts next ready reply is =
       let up = upright_by first t0 disk s h.makes.stood h.makes.sure parts in
       record {
         fill = h.makes.stood.fill;
@@ -218,13 +227,13 @@ module _ (first : State) (t0 : ℕ) (disk : Told) (s : Inside) (call : Call) (pi
         addresses = [];
         change = the_change;
         may = may_commit now (tapes_of s) caller call made making sure.in_state unrefused rope.effect;
-        reply = reply_is next ready.number ready.pieces;
+        replies = reply_is next ready.number ready.pieces ∙ sym is;
         in_range = making.range;
         frame = ap (λ n. 5 + n) (sym (ap length ready.payload ∙ ap (λ x. length (spelling x)) the_change ∙ size_again b.form now.kept.shape.block [] made tt));
         later_fill = h.makes.stood.fill;
         brings_it = record { spots = up.fills.spots; kept = brings_kept };
-        does = λ is.
-            let sound = (standing_gives laws disk).now first (tapes_of s) t0 s.journal b b s.history.items (honest is) (up.held is) in
+        does = λ told.
+            let sound = (standing_gives laws disk).now first (tapes_of s) t0 s.journal b b s.history.items (honest told) (up.held told) in
             ap (λ c. recovered disk.bytes (acted b c)) the_change ∙ call_does disk.bytes b now (tapes_of s) call [] made sound.fills sound.form sound.placed rope.effect tt tt;
         size = h.makes.stood.size;
       }

@@ -74,7 +74,13 @@ most_of block (calls.Record take) built changing = (6 + take.len, omega arith)
 most_of block (calls.Concat ids) built changing = (6, refl)
 most_of block (calls.Sub id start len) built changing = (6, refl)
 most_of block (calls.Replace id start len with) built changing = (6, refl)
+most_of block (calls.Retain class key id note) built changing = (6, refl)
+most_of block (calls.Forget class key) built changing = (6, refl)
+most_of block (calls.Census keys) built changing = (6, refl)
+most_of block (calls.Advance moment) built changing = (6, refl)
+most_of block (calls.Sweep limit) built changing = (6, refl)
 most_of block (calls.Length id) built changing = absurd (wrong changing)
+most_of block (calls.Lookup class key) built changing = absurd (wrong changing)
 most_of block _ built changing = absurd (wrong built)
 
 -- ---- room for more entries
@@ -96,7 +102,7 @@ module _ (first : State) (t0 : ℕ) (disk : Told) (s : Inside) (history : Vec En
       valid = subst (λ (t : State). IsState t) (sym last) up.valid;
       quiet = subst (λ (t : State). AreQuiet t.lanes) (sym last) up.quiet;
       fills = subst (λ (t : State). Fills stood.fill stood.b t) (sym last) up.fills;
-      seated = subst (λ (t : State). IsSeated s.journal s.base t) (sym last) up.seated;
+      seated = subst (λ (t : State). IsSeated s.journal t) (sym last) up.seated;
       acks = subst (λ l. AcksRise t0 l disk.calls) (sym is) up.acks;
       held = λ h. subst (λ l. IsHeld first (tapes_of s) t0 s.journal disk stood.b stood.after l) (sym is) (up.held h);
     };

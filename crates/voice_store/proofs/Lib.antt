@@ -1,4 +1,5 @@
 pub mod Again
+pub mod Altered
 pub mod Appended
 pub mod Bases
 pub mod Entries

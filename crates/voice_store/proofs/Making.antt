@@ -10,25 +10,48 @@ use Rattle.voice_model.specs.declared.calls.Call.{Call}
 use Rattle.voice_model.specs.declared.calls.Call.TheVariants as calls
 use Rattle.voice_model.specs.declared.calls.Reply.TheVariants as replies
 use Rattle.voice_model.specs.declared.calls.Why.TheVariants as why
-use Rattle.voice_store.specs.Facts.{MayCommit, is_edit}
+use Rattle.row_calls.specs.Asked.{is_row_call}
+use Rattle.voice_store.specs.Facts.{MayCommit, IsFault, is_edit}
 use Rattle.built_calls.specs.Built.{is_built}
 use Rattle.voice_store.proofs.Refused.{wrong, is_reply, stays_home, may_answer, after_answered}
 
--- a call that makes a rope does nothing else
+-- a call that makes a change does nothing else
 pub record IsMaking (s : State) (tapes : List (List ℕ)) (call : Call) : Type 0 where
   pub built : IsTrue (is_built call)
   pub changing : IsTrue (is_changing call)
   pub lanes : on_lanes s tapes call ≡ s
   pub closes : recording_closed s call ≡ s
   pub reaches : reaches_device s tapes call ≡ is_some (effect_of s tapes call)
-  pub reply : reply_of s tapes call ≡ replies.Rope s.next (samples_made (effect_of s tapes call) s)
   pub range : InRange call
 
 pub edit_makes : (s : State) (tapes : List (List ℕ)) (call : Call) → IsTrue (is_edit call) → IsMaking s tapes call
-edit_makes s tapes (calls.Concat ids) edits = record { built = refl; changing = refl; lanes = refl; closes = refl; reaches = refl; reply = refl; range = tt }
-edit_makes s tapes (calls.Sub id start len) edits = record { built = refl; changing = refl; lanes = refl; closes = refl; reaches = refl; reply = refl; range = tt }
-edit_makes s tapes (calls.Replace id start len with) edits = record { built = refl; changing = refl; lanes = refl; closes = refl; reaches = refl; reply = refl; range = tt }
+edit_makes s tapes (calls.Concat ids) edits = record { built = refl; changing = refl; lanes = refl; closes = refl; reaches = refl; range = tt }
+edit_makes s tapes (calls.Sub id start len) edits = record { built = refl; changing = refl; lanes = refl; closes = refl; reaches = refl; range = tt }
+edit_makes s tapes (calls.Replace id start len with) edits = record { built = refl; changing = refl; lanes = refl; closes = refl; reaches = refl; range = tt }
 edit_makes s tapes _ edits = absurd (wrong edits)
+
+pub edit_reply : (s : State) (tapes : List (List ℕ)) (call : Call) → IsTrue (is_edit call) → reply_of s tapes call ≡ replies.Rope s.next (samples_made (effect_of s tapes call) s)
+edit_reply s tapes (calls.Concat ids) edits = refl
+edit_reply s tapes (calls.Sub id start len) edits = refl
+edit_reply s tapes (calls.Replace id start len with) edits = refl
+edit_reply s tapes _ edits = absurd (wrong edits)
+
+pub row_makes : (s : State) (tapes : List (List ℕ)) (call : Call) → IsTrue (is_row_call call) → InRange call → IsMaking s tapes call
+row_makes s tapes (calls.Retain class key id note) row range = record { built = refl; changing = refl; lanes = refl; closes = refl; reaches = refl; range = range }
+row_makes s tapes (calls.Forget class key) row range = record { built = refl; changing = refl; lanes = refl; closes = refl; reaches = refl; range = tt }
+row_makes s tapes (calls.Census keys) row range = record { built = refl; changing = refl; lanes = refl; closes = refl; reaches = refl; range = tt }
+row_makes s tapes (calls.Advance moment) row range = record { built = refl; changing = refl; lanes = refl; closes = refl; reaches = refl; range = range }
+row_makes s tapes (calls.Sweep limit) row range = record { built = refl; changing = refl; lanes = refl; closes = refl; reaches = refl; range = tt }
+row_makes s tapes _ row range = absurd (wrong row)
+
+-- what it replies tells of no device fault
+pub row_plain : (s : State) (tapes : List (List ℕ)) (call : Call) → IsTrue (is_row_call call) → ¬ IsFault (reply_of s tapes call)
+row_plain s tapes (calls.Retain class key id note) row = λ fault. wrong fault
+row_plain s tapes (calls.Forget class key) row = λ fault. wrong fault
+row_plain s tapes (calls.Census keys) row = λ fault. wrong fault
+row_plain s tapes (calls.Advance moment) row = λ fault. wrong fault
+row_plain s tapes (calls.Sweep limit) row = λ fault. wrong fault
+row_plain s tapes _ row = absurd (wrong row)
 
 or_true : (b : Bool) → (b || true) ≡ true
 or_true true = refl

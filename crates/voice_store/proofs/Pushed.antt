@@ -34,7 +34,7 @@ module _ (first : State) (t0 : ℕ) (old new : Told) (s s' : Inside) (e : Entry)
   here P p = subst (λ (ts : List (List ℕ)). P ts s'.history.items) (sym same_tapes) (subst (λ (l : List Entry). P (tapes_of s) l) (sym items) p)
 
   pub stood_pushed : (fill fill' : Spot → Tagged) (b b' after' after'' : Rebuilt) → Upright first t0 old s fill b after' → old.calls ≤ new.calls → e.ack ≡ new.calls
-      → IsAnswer last (tapes_of s) e → IsState next → AreQuiet next.lanes → Fills fill' b' next → IsSeated s'.journal s'.base next
+      → IsAnswer last (tapes_of s) e → IsState next → AreQuiet next.lanes → Fills fill' b' next → IsSeated s'.journal next
       → (IsTrue new.honest → IsHeld first (tapes_of s) t0 s'.journal new b' after'' (s.history.items ++ e ∷ []))
       → IsSure s' b' after'' next ⊎ IsUnsure s' b' after'' next → extent s'.journal.shape ≤ new.size
       → Stood first t0 new s'
@@ -47,7 +47,7 @@ module _ (first : State) (t0 : ℕ) (old new : Told) (s s' : Inside) (e : Entry)
       valid = subst (λ (t : State). IsState t) (sym last_next) valid;
       quiet = subst (λ (t : State). AreQuiet t.lanes) (sym last_next) quiet;
       fills = subst (λ (t : State). Fills fill' b' t) (sym last_next) fills;
-      seated = subst (λ (t : State). IsSeated s'.journal s'.base t) (sym last_next) seated;
+      seated = subst (λ (t : State). IsSeated s'.journal t) (sym last_next) seated;
       acks = here (λ ts l. AcksRise t0 l new.calls) (acks_one t0 s.history.items e new.calls (acks_later t0 s.history.items old.calls new.calls up.acks later) now);
       held = λ honest. here (λ ts l. IsHeld first ts t0 s'.journal new b' after'' l) (held honest);
     };

@@ -78,8 +78,8 @@ module _ (first : State) (t0 : ℕ) (disk : Told) (s : Inside) (take : Take) (h 
   grown form true blocks = omega arith
   grown form false blocks = omega arith
 
-  pub need_is : (n : ℕ) → n ≡ 24 + cond (s.parts.form == 2) 1 0 + cond (take.len == 0) 0 (34 + (4 + address_size s.parts.form) * blocks_for s.journal.shape.block take.len) → s.base + n ≡ base_size last.form (changed last.form last.kept effect)
-  need_is n is =
+  pub need_is : (now n : ℕ) → now ≡ base_size last.form last.kept → n ≡ 24 + cond (s.parts.form == 2) 1 0 + cond (take.len == 0) 0 (34 + (4 + address_size s.parts.form) * blocks_for s.journal.shape.block take.len) → now + n ≡ base_size last.form (changed last.form last.kept effect)
+  need_is now n base is =
       let up = h.stood.upright in
       let sure = is_sure first t0 disk s h.stood h.sure in
       let size = recorded_size last.form last.kept last.next bytes (below_next h.stood.fill up.fills.spots h.stood.b last.kept sure.tables.placed up.fills.kept) in
@@ -89,7 +89,7 @@ module _ (first : State) (t0 : ℕ) (disk : Told) (s : Inside) (take : Take) (h 
       ap (λ m. blocks_size last.form last.kept.shape m) many ∙ ap (λ m. cond (take.len == 0) 0 (18 + (4 + address_size last.form) * blocks_for m take.len)) block_same in
       let more = is ∙ ap (λ f. 24 + cond (f == 2) 1 0 + cond (take.len == 0) 0 (34 + (4 + address_size f) * blocks_for s.journal.shape.block take.len)) (same_form first t0 disk s h.stood h.sure)
       ∙ grown last.form (take.len == 0) (blocks_for s.journal.shape.block take.len) in
-      sums _ _ _ _ _ _ _ up.seated.base more rope blocks ∙ sym size
+      sums _ _ _ _ _ _ _ base more rope blocks ∙ sym size
     where
       sums : (base n old rope r blocks k : ℕ) → base ≡ old → n ≡ r + k → rope ≡ r → blocks ≡ k → base + n ≡ old + rope + blocks
       sums base n old rope r blocks k e f g i = omega (arith, e, f, g, i)
@@ -102,5 +102,5 @@ module _ (first : State) (t0 : ℕ) (disk : Told) (s : Inside) (take : Take) (h 
   pub recording_free : is_journal_full last effect ≡ false → refusal last (tapes_of s) (calls.Record take) ≡ None
   recording_free spare = journal_last.late last (tapes_of s) (calls.Record take) h.unrefused ∙ ap (λ b. when b (journal_full last effect)) spare
 
-  pub has_room : (need : ℕ) (way : Way) → need ≡ base_size last.form (changed last.form last.kept effect) → IsWay last effect way → is_journal_full last effect ≡ false → HasRoom first t0 disk s take need way
-  has_room need way is goes spare = record { makes = h; goes = goes; free = spare; needs = is }
+  pub has_room : (way : Way) → IsWay last effect way → is_journal_full last effect ≡ false → HasRoom first t0 disk s take way
+  has_room way goes spare = record { makes = h; goes = goes; free = spare }

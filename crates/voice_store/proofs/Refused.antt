@@ -2,11 +2,13 @@
 use Rattle.std.proofs.Common.{◌≡◌, ◌⊎◌, inl, inr, ℕ, List, [], ◌∷◌, map, true, false, Option, Some, None, IsTrue, refl, sym, ◌∙◌, ap, subst}
 use Rattle.voice_units.specs.Spots.{Spot}
 use Rattle.voice_model.specs.Samples.{Tagged, spot_of}
-use Rattle.voice_model.specs.State.{State, Live, Durable}
-use Rattle.voice_model.specs.Step.{Outcome, outcome_of, refusal, reply_by, windows_home, answered, after_reply, state_by, state_after, nothing_to_land, landing_failed, MayReply, IsReply}
+use Rattle.voice_model.specs.State.{State, Live, Durable, row_at}
+use Rattle.voice_model.specs.Changes.{effect_of}
+use Rattle.voice_model.specs.Step.{Outcome, outcome_of, refusal, reply_of, found, first_of, if_missing, on_lanes, with_change, reply_by, windows_home, answered, after_reply, state_by, state_after, nothing_to_land, landing_failed, MayReply, IsReply}
 use Rattle.voice_model.specs.Replay.{Rebuilt, live_by, durable_by}
 use Rattle.voice_model.specs.declared.calls.Call.{Call}
 use Rattle.voice_model.specs.declared.calls.Call.TheVariants as calls
+use Rattle.voice_model.specs.declared.calls.Class.{Class}
 use Rattle.voice_model.specs.declared.calls.Reply.{Reply}
 use Rattle.voice_model.specs.declared.calls.Reply.TheVariants as replies
 use Rattle.voice_model.specs.declared.calls.Why.{Why}
@@ -16,9 +18,11 @@ use Rattle.recovery.specs.Shown.{Shows}
 use Rattle.recovery.specs.declared.parts.Parts.{Parts}
 use Rattle.edits.specs.Shown.{ShowsState, IsLength}
 use Rattle.voice_outside.specs.Disk.{Told}
+use Rattle.next_changes.proofs.Given.{given}
 use Rattle.voice_store.specs.declared.inside.Inside.{Inside}
 use Rattle.voice_store.specs.Stood.{is_fault_of, Fills, IsSure, IsUnsure, Stood, last_of}
 use Rattle.voice_store.specs.Facts.{Stays, IsFault, entry_of}
+use Rattle.voice_store.specs.Asking.{HasInterest}
 use Rattle.built_calls.specs.Built.{is_built}
 
 -- ---- a call that the store can do
@@ -32,6 +36,12 @@ is_reply s tapes caller (calls.Concat ids) reply built may = (tt, may)
 is_reply s tapes caller (calls.Sub id start len) reply built may = (tt, may)
 is_reply s tapes caller (calls.Replace id start len with) reply built may = (tt, may)
 is_reply s tapes caller (calls.Length id) reply built may = (tt, may)
+is_reply s tapes caller (calls.Retain class key id note) reply built may = (tt, may)
+is_reply s tapes caller (calls.Forget class key) reply built may = (tt, may)
+is_reply s tapes caller (calls.Lookup class key) reply built may = (tt, may)
+is_reply s tapes caller (calls.Census keys) reply built may = (tt, may)
+is_reply s tapes caller (calls.Advance moment) reply built may = (tt, may)
+is_reply s tapes caller (calls.Sweep limit) reply built may = (tt, may)
 is_reply s tapes caller _ reply built may = absurd (wrong built)
 
 pub stays_home : (s : State) (call : Call) → IsTrue (is_built call) → windows_home s call ≡ s
@@ -40,6 +50,12 @@ stays_home s (calls.Concat ids) built = refl
 stays_home s (calls.Sub id start len) built = refl
 stays_home s (calls.Replace id start len with) built = refl
 stays_home s (calls.Length id) built = refl
+stays_home s (calls.Retain class key id note) built = refl
+stays_home s (calls.Forget class key) built = refl
+stays_home s (calls.Lookup class key) built = refl
+stays_home s (calls.Census keys) built = refl
+stays_home s (calls.Advance moment) built = refl
+stays_home s (calls.Sweep limit) built = refl
 stays_home s _ built = absurd (wrong built)
 
 pub answered_so : (s : State) (tapes : List (List ℕ)) (call : Call) → IsTrue (is_built call) → answered s tapes call ≡ after_reply s tapes call (refusal s tapes call)
@@ -48,6 +64,12 @@ answered_so s tapes (calls.Concat ids) built = refl
 answered_so s tapes (calls.Sub id start len) built = refl
 answered_so s tapes (calls.Replace id start len with) built = refl
 answered_so s tapes (calls.Length id) built = refl
+answered_so s tapes (calls.Retain class key id note) built = refl
+answered_so s tapes (calls.Forget class key) built = refl
+answered_so s tapes (calls.Lookup class key) built = refl
+answered_so s tapes (calls.Census keys) built = refl
+answered_so s tapes (calls.Advance moment) built = refl
+answered_so s tapes (calls.Sweep limit) built = refl
 answered_so s tapes _ built = absurd (wrong built)
 
 -- ---- a refusal
@@ -91,6 +113,29 @@ length_stays s tapes caller id n is =
       stays = λ ack. after_answered s tapes caller (calls.Length id) refl refl None is.0 ack;
     })
 
+-- ---- an interest
+
+pub found_stays : (s : State) (tapes : List (List ℕ)) (caller : ℕ) (class : Class) (key : List ℕ) (rope : ℕ) (note : List ℕ) → HasInterest s class key rope note → Stays s tapes caller (calls.Lookup class key) (replies.Found rope note)
+found_stays s tapes caller class key rope note has =
+    let free : refusal s tapes (calls.Lookup class key) ≡ None = ap (λ o. first_of (if_missing o ∷ [])) has.1 in
+    subst (λ r. Stays s tapes caller (calls.Lookup class key) r) (ap found has.1 ∙ ap (λ n. replies.Found n has.0.note) has.2 ∙ ap (replies.Found rope) has.3) (record {
+      answers = may_answer s tapes caller (calls.Lookup class key) refl refl None free;
+      stays = λ ack. after_answered s tapes caller (calls.Lookup class key) refl refl None free ack;
+    })
+
+pub missing_refused : (s : State) (tapes : List (List ℕ)) (class : Class) (key : List ℕ) → row_at s.rows class key ≡ None → refusal s tapes (calls.Lookup class key) ≡ Some why.NoInterest
+missing_refused s tapes class key none = ap (λ o. first_of (if_missing o ∷ [])) none
+
+-- ---- a call that alters nothing
+
+pub nothing_stays : (s : State) (tapes : List (List ℕ)) (caller : ℕ) (call : Call) (reply : Reply) → IsTrue (is_built call) → IsTrue (nothing_to_land s call) → on_lanes s tapes call ≡ s → refusal s tapes call ≡ None → effect_of s tapes call ≡ None → reply_of s tapes call ≡ reply
+    → Stays s tapes caller call reply
+nothing_stays s tapes caller call reply built free lanes unrefused none is =
+    subst (λ r. Stays s tapes caller call r) is (record {
+      answers = may_answer s tapes caller call built free None unrefused;
+      stays = λ ack. after_answered s tapes caller call built free None unrefused ack ∙ ap (λ t. with_change t s.form (effect_of s tapes call)) lanes ∙ ap (with_change s s.form) none;
+    })
+
 -- ---- what the tables show of the state
 
 pub spots_again : (fill : Spot → Tagged) → ((x : Spot) → spot_of (fill x) ≡ x) → (ss : List Spot) → map spot_of (map fill ss) ≡ ss
@@ -111,7 +156,7 @@ shows_state fill b s parts fills shows = subst (λ d. Shows [] parts d) (sym (ke
 module _ (first : State) (t0 : ℕ) (disk : Told) (s : Inside) (stood : Stood first t0 disk s) where
   shown : IsSure s stood.b stood.after (last_of first s) ⊎ IsUnsure s stood.b stood.after (last_of first s) → Shows [] s.parts stood.b.kept
   shown (inl sure) = sure.tables.kept
-  shown (inr unsure) = unsure.ready.shows
+  shown (inr unsure) = (given s.parts stood.b unsure.doubted.next unsure.change unsure.ready).shows
 
   pub stood_shows : ShowsState [] s.parts (last_of first s)
   stood_shows = shows_state stood.fill stood.b (last_of first s) s.parts stood.upright.fills (shown stood.tables)

@@ -12,8 +12,8 @@ use Rattle.voice_model.specs.Step.{landed, after_landing, state_after}
 use Rattle.voice_model.specs.Replay.{Rebuilt, acted}
 use Rattle.recovery.specs.Shown.{Rebuilds}
 use Rattle.recovery.specs.declared.parts.Parts.{Parts}
-use Rattle.next_ropes.specs.Ready.{IsReady}
-use Rattle.next_ropes.specs.declared.NextRope.{NextRope}
+use Rattle.next_changes.specs.Next.{IsNext}
+use Rattle.next_changes.specs.declared.NextChange.{NextChange}
 use Rattle.crash_laws.specs.Standing.{IsLater}
 use Rattle.crash_laws.specs.Calls.{Lands, StaysInDoubt, LandsWithin}
 use Rattle.crash_laws.specs.Laws.{LandingsCarry}
@@ -39,7 +39,7 @@ none_some x e = cc
 true_false : true ≡ false → ⊥
 true_false e = cc
 
--- only where a change is in doubt is a rope ready
+-- only where a change is in doubt is one ready
 pub unsure_of : (s : Inside) (b after' : Rebuilt) (last : State) (doubted : Doubted) → s.doubt ≡ Some doubted → IsSure s b after' last ⊎ IsUnsure s b after' last → IsUnsure s b after' last
 unsure_of s b after' last doubted is (inl sure) = absurd (none_some doubted (sym sure.sure ∙ is))
 unsure_of s b after' last doubted is (inr unsure) = unsure
@@ -68,19 +68,18 @@ module _ (first : State) (t0 : ℕ) (old new : Told) (s s' : Inside) (was : Stoo
   last = last_of first s
 
   pub stood_landed : s'.tapes ≡ s.tapes → s'.history.items ≡ s.history.items ++ landing_at new.calls ∷ [] → s'.journal ≡ landed_journal s.journal unsure.doubt
-      → s'.doubt ≡ None → s'.base ≡ unsure.doubted.base → s'.parts.form ≡ unsure.doubted.form → Rebuilds (in_form was.b.form s'.parts) (acted was.b unsure.change)
+      → s'.doubt ≡ None → s'.parts.form ≡ unsure.doubted.form → Rebuilds (in_form was.b.form s'.parts) (acted was.b unsure.change)
       → (IsTrue old.honest → Lands s.journal s'.journal old new × LandsWithin s.journal old new)
       → Stood first t0 new s'
-  stood_landed tapes items journal doubt base form tables does =
+  stood_landed tapes items journal doubt form tables does =
       let lands = unsure.lands in
       let e = landing_at new.calls in
       let next_is : state_after last (tapes_of s) e ≡ landed last = refl in
       let shown : Rebuilds (in_form unsure.doubted.form s'.parts) was.after = lands.tables (in_form was.b.form s'.parts) tables in
       let shows : Rebuilds s'.parts was.after = subst (λ (f : ℕ). Rebuilds (in_form f s'.parts) was.after) (sym form) shown in
       let none : (landed last).doubt ≡ None = landed_doubt last last.doubt in
-      let seated : IsSeated s'.journal s'.base (landed last) =
-      subst (λ (n : ℕ). IsSeated s'.journal n (landed last)) (sym base) (subst (λ (j : JournalValue). IsSeated j unsure.doubted.base (landed last)) (sym journal)
-      (record { shape = lands.seated.shape; left = lands.seated.left; epoch = lands.seated.epoch; base = lands.seated.base })) in
+      let seated : IsSeated s'.journal (landed last) =
+      subst (λ (j : JournalValue). IsSeated j (landed last)) (sym journal) (record { shape = lands.seated.shape; left = lands.seated.left; epoch = lands.seated.epoch }) in
       stood_pushed first t0 old new s s' e tapes items was.fill lands.fill was.b was.after was.after was.after was.upright later refl
       (refl, refl, subst (λ (o : Option Pending). IsTrue (is_some o)) (sym unsure.in_state) is_true)
       lands.valid
@@ -110,9 +109,9 @@ pub ready_in : (first : State) (t0 : ℕ) (disk : Told) (s : Inside) (was : Stoo
 ready_in first t0 disk s was unsure doubted s' same parts shape = record {
   b = was.b;
   c = unsure.change;
-  ready = subst (λ (p : Parts). IsReady p was.b doubted.next unsure.change) (sym parts) (subst (λ (d : Doubted). IsReady s.parts was.b d.next unsure.change) same unsure.ready);
+  ready = subst (λ (p : Parts). IsNext p was.b doubted.next unsure.change) (sym parts) (subst (λ (d : Doubted). IsNext s.parts was.b d.next unsure.change) same unsure.ready);
   in_shape = shape_of first t0 disk s was ∙ sym shape;
 }
 
-pub ready_again : (s s' : Inside) (next : NextRope) → s'.parts ≡ s.parts → s'.journal.shape ≡ s.journal.shape → IsReadyIn s next → IsReadyIn s' next
-ready_again s s' next parts shape ready = record { b = ready.b; c = ready.c; ready = subst (λ (p : Parts). IsReady p ready.b next ready.c) (sym parts) ready.ready; in_shape = ready.in_shape ∙ sym shape }
+pub ready_again : (s s' : Inside) (next : NextChange) → s'.parts ≡ s.parts → s'.journal.shape ≡ s.journal.shape → IsReadyIn s next → IsReadyIn s' next
+ready_again s s' next parts shape ready = record { b = ready.b; c = ready.c; ready = subst (λ (p : Parts). IsNext p ready.b next ready.c) (sym parts) ready.ready; in_shape = ready.in_shape ∙ sym shape }

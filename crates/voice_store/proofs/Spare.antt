@@ -29,6 +29,11 @@ use Rattle.recovery.proofs.Rebuilding.{all_stay_used, more_used}
 use Rattle.recovery.proofs.Recordings.{all_used_recorded}
 use Rattle.next_ropes.specs.declared.NextRope.{NextRope}
 use Rattle.next_ropes.specs.Ready.{IsReady, next_change}
+use Rattle.next_changes.specs.Next.{IsNext, IsOther}
+use Rattle.next_changes.specs.declared.NextChange.{NextChange}
+use Rattle.next_changes.specs.declared.NextChange.TheVariants.{Rope, Other}
+use Rattle.next_changes.proofs.Given.{brings_rope, plain}
+use Rattle.ready_changes.specs.declared.ReadyChange.{ReadyChange}
 use Rattle.voice_store.specs.declared.inside.Inside.{Inside}
 use Rattle.voice_store.specs.Stood.{last_of, IsSure, IsUnsure, ShowsState, Stood}
 use Rattle.voice_store.proofs.Rooms.{free_open}
@@ -72,19 +77,32 @@ grown_ready parts b next c h =
 
 -- ---- a change in doubt holds the blocks of its rope
 
-abbrev is_rope : Change → Bool
-is_rope (kinds.Recorded id len addresses) = true
-is_rope (kinds.Wide id len addresses) = true
-is_rope (kinds.Edited id pieces) = true
-is_rope _ = false
-
-next_is_rope : (form : ℕ) (next : NextRope) → is_rope (next_change form next) ≡ true
+next_is_rope : (form : ℕ) (next : NextRope) → brings_rope (next_change form next) ≡ true
 next_is_rope form next = by next.recorded (form == 2)
   where
-    by : (r w : Bool) → is_rope (cond r (cond w (kinds.Wide next.id (samples_in next.pieces) next.addresses.items) (kinds.Recorded next.id (samples_in next.pieces) next.addresses.items)) (kinds.Edited next.id next.pieces)) ≡ true
+    by : (r w : Bool) → brings_rope (cond r (cond w (kinds.Wide next.id (samples_in next.pieces) next.addresses.items) (kinds.Recorded next.id (samples_in next.pieces) next.addresses.items)) (kinds.Edited next.id next.pieces)) ≡ true
     by true true = refl
     by true false = refl
     by false w = refl
+
+-- a change that brings no rope brings no samples
+brings_none : (form : ℕ) (addresses : List ℕ) (effect : Effect Tagged) → brings_rope (change_of form addresses effect) ≡ false → samples_brought effect ≡ []
+brings_none form addresses (Recorded id samples) none = by (form == 2) none
+  where
+    by : (wide : Bool) → brings_rope (cond wide (kinds.Wide id (length samples) addresses) (kinds.Recorded id (length samples) addresses)) ≡ false → samples ≡ []
+    by true e = cc
+    by false e = cc
+brings_none form addresses (Edited id samples) none = cc
+brings_none form addresses (Retained row) none = refl
+brings_none form addresses (Forgotten class key) none = refl
+brings_none form addresses (Counted keys) none = refl
+brings_none form addresses (Swept ids) none = refl
+brings_none form addresses (Advanced moment) none = refl
+
+-- how many blocks are free where a doubt holds these samples
+abbrev spare_by : State → List Tagged → ℕ
+spare_by s held =
+    s.shape.blocks - (length (distinct (pairs_of s.shape.block (flat_map (λ (rope : Live Tagged). rope.samples) s.ropes ++ flat_map held_by_lane s.lanes ++ held))) + sum_by (λ (lane : LaneState). taking_blocks s.shape.block lane.taking) s.lanes)
 
 -- the state with the change done
 abbrev done_in : State → Effect Tagged → State
@@ -117,7 +135,7 @@ module _ (s : State) (quiet : s.lanes ≡ replicate (length s.lanes) quiet_lane)
   abbrev spare_again : List Tagged → ℕ
   spare_again samples = s.shape.blocks - (length (distinct (pairs_of s.shape.block samples)) + sum_by (λ (lane : LaneState). taking_blocks s.shape.block lane.taking) s.lanes)
 
-  same_free : (form : ℕ) (addresses : List ℕ) (effect : Effect Tagged) → is_rope (change_of form addresses effect) ≡ true → held_by_doubt s.doubt ≡ samples_brought effect → free s ≡ free (done_in s effect)
+  same_free : (form : ℕ) (addresses : List ℕ) (effect : Effect Tagged) → brings_rope (change_of form addresses effect) ≡ true → held_by_doubt s.doubt ≡ samples_brought effect → free s ≡ free (done_in s effect)
   same_free form addresses (Recorded id samples) kind brought = ap spare_again (in_use samples (record { id = id; samples = samples; idle = s.moment; last = 0 }) refl brought)
   same_free form addresses (Edited id samples) kind brought = ap spare_again (in_use samples (record { id = id; samples = samples; idle = s.moment; last = 0 }) refl brought)
   same_free form addresses (Retained row) kind brought = cc
@@ -139,20 +157,37 @@ module _ (first : State) (t0 : ℕ) (disk : Told) (s : Inside) (stood : Stood fi
   when_sure sure =
       free_open stood.fill stood.upright.fills.spots stood.b last holders (length last.lanes) sure.tables.placed sure.tables.used stood.upright.quiet sure.in_state stood.upright.fills.kept sure.tables.places
 
-  when_unsure : IsUnsure s stood.b stood.after last → free last ≡ open_in holders
-  when_unsure unsure =
+  -- a rope holds its blocks
+  with_rope_ready : (unsure : IsUnsure s stood.b stood.after last) (rope : NextRope) → IsReady s.parts stood.b rope unsure.change → free last ≡ open_in holders
+  with_rope_ready unsure rope ready =
       let effect = unsure.pending.effect in
       let b = stood.b in
       let c = unsure.change in
-      let ready = unsure.ready in
-      let grown = grown_ready s.parts b unsure.doubted.next c ready in
-      let kind : is_rope (change_of b.form unsure.addresses effect) ≡ true = ap is_rope (sym unsure.spelled ∙ ready.change) ∙ next_is_rope b.form unsure.doubted.next in
+      let grown = grown_ready s.parts b rope c ready in
+      let kind : brings_rope (change_of b.form unsure.addresses effect) ≡ true = ap brings_rope (sym unsure.spelled ∙ ready.change) ∙ next_is_rope b.form rope in
       let shape = acted_shape b c ready.kind in
       same_free last stood.upright.quiet b.form unsure.addresses effect kind (ap held_by_doubt unsure.in_state)
       ∙ free_open unsure.later_fill unsure.brings_it.spots (acted b c) (done_in last effect) holders (length last.lanes)
       (placed_next b c ready.placed ready.legal ready.grammar) grown.used stood.upright.quiet refl unsure.brings_it.kept
       (subst (λ (ps : List Placed). ShowsPlaces holders (acted b c).shape.blocks ps) (sym grown.places)
       (subst (λ (x : Shape). ShowsPlaces holders x.blocks (b.places ++ new_places c)) (sym shape) ready.places))
+
+  -- any other change holds none
+  with_other_ready : (unsure : IsUnsure s stood.b stood.after last) (other : ReadyChange) → IsOther s.parts stood.b other unsure.change → free last ≡ open_in holders
+  with_other_ready unsure other ready =
+      let b = stood.b in
+      let none : brings_rope (change_of b.form unsure.addresses unsure.pending.effect) ≡ false = ap brings_rope (sym unsure.spelled) ∙ (plain s.parts.interests.spare b.kept other.act unsure.change ready.ready.does).no_rope in
+      let held : held_by_doubt last.doubt ≡ held_by_doubt None = ap held_by_doubt unsure.in_state ∙ brings_none b.form unsure.addresses unsure.pending.effect none in
+      ap (spare_by last) held
+      ∙ free_open stood.fill stood.upright.fills.spots b (record last { doubt = None }) holders (length last.lanes)
+      ready.rebuilds.placed ready.rebuilds.used stood.upright.quiet refl stood.upright.fills.kept ready.rebuilds.places
+
+  when_unsure : IsUnsure s stood.b stood.after last → free last ≡ open_in holders
+  when_unsure unsure = by unsure.doubted.next unsure.ready
+    where
+      by : (next : NextChange) → IsNext s.parts stood.b next unsure.change → free last ≡ open_in holders
+      by (Rope rope) ready = with_rope_ready unsure rope ready
+      by (Other other) ready = with_other_ready unsure other ready
 
   pub free_is_open : free last ≡ open_in holders
   free_is_open = by stood.tables

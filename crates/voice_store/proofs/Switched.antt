@@ -18,12 +18,15 @@ use Rattle.voice_model.specs.Base as changes
 use Rattle.voice_model.specs.Places.{IsPlaced, AllUsed}
 use Rattle.voice_model.specs.Valid.{IsRebuilt}
 use Rattle.voice_model.specs.declared.calls.Call.{Call}
+use Rattle.voice_model.specs.declared.calls.Reply.{Reply}
 use Rattle.voice_model.specs.declared.changes.Change.{Change}
 use Rattle.voice_model.specs.declared.changes.Change.TheVariants as kinds
 use Rattle.voice_model.proofs.BaseSize.{base_sized}
 use Rattle.journal_readings.specs.Readings.{Rebuild}
 use Rattle.journal_readings.proofs.Replays as replays
-use Rattle.next_ropes.specs.declared.NextRope.{NextRope}
+use Rattle.next_changes.specs.declared.NextChange.{NextChange}
+use Rattle.next_changes.specs.Laws.{IsGiven}
+use Rattle.next_changes.proofs.Given.{given}
 use Rattle.recovery.specs.Shown.{Shows, Rebuilds, placed_at, plain_sample}
 use Rattle.recovery.specs.declared.parts.Parts.{Parts}
 use Rattle.crash_laws.specs.Standing.{IsLater, IsHeld}
@@ -84,8 +87,8 @@ shown_read_back parts x end to shows kept places form valid placed used = record
   used = used;
 }
 
-module _ (first : State) (t0 : ℕ) (old new : Told) (s s' : Inside) (b : Rebuilt) (next : NextRope) (c : Change) (effect : Effect Tagged) (caller : ℕ) (call : Call)
-    (tr : Trying first t0 old s b next c effect caller call) (later : old.calls ≤ new.calls) (sizes : new.size ≡ old.size)
+module _ (first : State) (t0 : ℕ) (old new : Told) (s s' : Inside) (b : Rebuilt) (next : NextChange) (c : Change) (effect : Effect Tagged) (caller : ℕ) (call : Call) (reply : Reply)
+    (tr : Trying first t0 old s b next c effect caller call reply) (later : old.calls ≤ new.calls) (sizes : new.size ≡ old.size)
     (honest : IsTrue new.honest → IsTrue old.honest) (moments : IsTrue old.honest → IsLater old new)
     (base : Base) (is_base : IsBaseOf s.journal.shape (acted b c) base) (fits : FitsOther (last_of first s) effect) (room : framed_size base.payloads + 17 ≤ s.journal.shape.area) where
   abbrev last : State
@@ -96,6 +99,9 @@ module _ (first : State) (t0 : ℕ) (old new : Told) (s s' : Inside) (b : Rebuil
 
   abbrev then : State
   then = committed last last.form effect
+
+  abbrev gives : IsGiven s.parts b next c
+  gives = given s.parts b next c tr.ready
 
   abbrev Reached : Type 0
   Reached =
@@ -115,7 +121,7 @@ module _ (first : State) (t0 : ℕ) (old new : Told) (s s' : Inside) (b : Rebuil
   later_kept = tr.brings_it.kept
 
   x_form : x.form ≡ last.form
-  x_form = acted_form b c tr.ready.kind ∙ tr.upright.fills.form
+  x_form = acted_form b c gives.kind ∙ tr.upright.fills.form
 
   size_of_base : (form : ℕ) → changes.framed_size (base_of form x) ≡ base_size form (changed last.form last.kept effect)
   size_of_base form = base_sized tr.later_fill tr.brings_it.spots form x is_base.placed is_base.used ∙ ap (λ (d : Durable Tagged). base_size form d) later_kept
@@ -141,14 +147,14 @@ module _ (first : State) (t0 : ℕ) (old new : Told) (s s' : Inside) (b : Rebuil
     form = (reached).3 ∙ to_form;
   })
 
-  seated_then : IsSeated (record s.journal { seat = landed_seat s.journal.seat (Area gate) }) (framed_size base.payloads) then
+  seated_then : IsSeated (record s.journal { seat = landed_seat s.journal.seat (Area gate) }) then
   seated_then =
       let was = tr.upright.seated in
       let size = size_is ∙ ap (λ (f : ℕ). base_size f (changed last.form last.kept effect)) to_form in
       let area : last.kept.shape.area ≡ s.journal.shape.area = ap (λ (x : Shape). x.area) was.shape in
       let epoch = was.epoch in
-      subst (λ (t : State). IsSeated (record s.journal { seat = landed_seat s.journal.seat (Area gate) }) (framed_size base.payloads) t) (sym is_then)
-      (record { shape = changed_shape last.form last.kept effect ∙ was.shape; left = omega (arith, size, area, room); epoch = omega (arith, epoch); base = size })
+      subst (λ (t : State). IsSeated (record s.journal { seat = landed_seat s.journal.seat (Area gate) }) t) (sym is_then)
+      (record { shape = changed_shape last.form last.kept effect ∙ was.shape; left = omega (arith, size, area, room); epoch = omega (arith, epoch) })
 
   tables_then : (parts : Parts) → Rebuilds parts x → Rebuilds (in_form base.form parts) end
   tables_then parts shows =
@@ -162,7 +168,7 @@ module _ (first : State) (t0 : ℕ) (old new : Told) (s s' : Inside) (b : Rebuil
     placed = is_base.placed;
     used = is_base.used;
     can = is_base.can;
-    in_shape = acted_shape b c tr.ready.kind;
+    in_shape = acted_shape b c gives.kind;
     does = tr.does h;
   }
 
@@ -170,40 +176,40 @@ module _ (first : State) (t0 : ℕ) (old new : Told) (s s' : Inside) (b : Rebuil
   same_end : (other : Rebuilt) → IsReadBack base.form x other → other ≡ end
   same_end other back = replays.once (switched (formatted x.shape) (map spelling (base_of base.form x))) other end back.rebuilds (reached).1
 
-  committed_then : IsCommitted last effect base.form (state_after last (tapes_of s) (entry_done first t0 old new s s' b next c effect caller call tr later sizes honest moments))
+  committed_then : IsCommitted last effect base.form (state_after last (tapes_of s) (entry_done first t0 old new s s' b next c effect caller call reply tr later sizes honest moments))
   committed_then =
-      let is = next_done first t0 old new s s' b next c effect caller call tr later sizes ∙ is_then in
+      let is = next_done first t0 old new s s' b next c effect caller call reply tr later sizes ∙ is_then in
       record { kept = ap (λ (t : State). t.kept) is; doubt = ap (λ (t : State). t.doubt) is ∙ tr.may.sure; form = ap (λ (t : State). t.form) is ∙ sym to_form }
 
-  pub switched_stood : s'.tapes ≡ s.tapes → s'.history.items ≡ s.history.items ++ entry_done first t0 old new s s' b next c effect caller call tr later sizes honest moments ∷ []
-      → s'.journal.shape ≡ s.journal.shape → s'.journal.seat ≡ landed_seat s.journal.seat (Area gate) → s'.journal.doubt ≡ None → s'.doubt ≡ None → s'.base ≡ framed_size base.payloads
+  pub switched_stood : s'.tapes ≡ s.tapes → s'.history.items ≡ s.history.items ++ entry_done first t0 old new s s' b next c effect caller call reply tr later sizes honest moments ∷ []
+      → s'.journal.shape ≡ s.journal.shape → s'.journal.seat ≡ landed_seat s.journal.seat (Area gate) → s'.journal.doubt ≡ None → s'.doubt ≡ None
       → (parts : Parts) → Rebuilds parts x → s'.parts ≡ in_form base.form parts
       → SwitchesCarry old new → (IsTrue old.honest → Does (λ r. switched r base.payloads) s.journal s'.journal old new × StaysWithin (λ r. switched r base.payloads) s.journal old new)
       → Stood first t0 new s'
-  switched_stood tapes items shape seat sure none size parts tables parts_are carry does =
-      stood_done first t0 old new s s' b next c effect caller call tr later sizes end (Area gate) (framed_size base.payloads) tapes items shape seat sure none size
+  switched_stood tapes items shape seat sure none parts tables parts_are carry does =
+      stood_done first t0 old new s s' b next c effect caller call reply tr later sizes end (Area gate) tapes items shape seat sure none
       (subst (λ (p : Parts). Rebuilds p end) (sym parts_are) (tables_then parts tables)) fills_then seated_then
       (λ h. let h' = honest h in let d = does h' in
-      let e = entry_done first t0 old new s s' b next c effect caller call tr later sizes honest moments in
+      let e = entry_done first t0 old new s s' b next c effect caller call reply tr later sizes honest moments in
       let got = carry.ok first (tapes_of s) t0 s.journal s'.journal b b s.history.items effect base.form base.payloads x e (moments h') (tr.upright.held h') tr.may.sure (spells h') d.0 d.1 refl committed_then in
       subst (λ (r : Rebuilt). IsHeld first (tapes_of s) t0 s'.journal new r r (s.history.items ++ e ∷ [])) (same_end got.0 got.1) got.2)
 
-  waits_then : IsInDoubt last effect (state_after last (tapes_of s) (entry_waits first t0 old new s s' b next c effect caller call tr later sizes honest moments))
+  waits_then : IsInDoubt last effect (state_after last (tapes_of s) (entry_waits first t0 old new s s' b next c effect caller call reply tr later sizes honest moments))
   waits_then =
-      let is = next_waits first t0 old new s s' b next c effect caller call tr later sizes in
+      let is = next_waits first t0 old new s s' b next c effect caller call reply tr later sizes in
       record { kept = ap (λ (t : State). t.kept) is; doubt = ap (λ (t : State). t.doubt) is; form = ap (λ (t : State). t.form) is; left = ap (λ (t : State). t.left) is }
 
-  pub switch_waits : (doubted : Doubted) → doubted.next ≡ next → doubted.base ≡ framed_size base.payloads → doubted.form ≡ base.form → s'.tapes ≡ s.tapes
-      → s'.history.items ≡ s.history.items ++ entry_waits first t0 old new s s' b next c effect caller call tr later sizes honest moments ∷ []
-      → s'.journal.shape ≡ s.journal.shape → s'.journal.seat ≡ s.journal.seat → s'.journal.doubt ≡ Some (Area gate) → s'.doubt ≡ Some doubted → s'.base ≡ s.base → s'.parts ≡ s.parts
+  pub switch_waits : (doubted : Doubted) → doubted.next ≡ next → doubted.form ≡ base.form → s'.tapes ≡ s.tapes
+      → s'.history.items ≡ s.history.items ++ entry_waits first t0 old new s s' b next c effect caller call reply tr later sizes honest moments ∷ []
+      → s'.journal.shape ≡ s.journal.shape → s'.journal.seat ≡ s.journal.seat → s'.journal.doubt ≡ Some (Area gate) → s'.doubt ≡ Some doubted → s'.parts ≡ s.parts
       → SwitchesCarry old new → (IsTrue old.honest → Doubts (λ r. switched r base.payloads) s.journal s'.journal old new × StaysWithin (λ r. switched r base.payloads) s.journal old new)
       → Stood first t0 new s'
-  switch_waits doubted same size form tapes items shape seat unsure some base_same parts carry doubts =
-      stood_waits first t0 old new s s' b next c effect caller call tr later sizes end (Area gate) doubted same tapes items shape seat unsure some base_same parts
+  switch_waits doubted same form tapes items shape seat unsure some parts carry doubts =
+      stood_waits first t0 old new s s' b next c effect caller call reply tr later sizes end (Area gate) doubted same tapes items shape seat unsure some parts
       (λ p shows. subst (λ (f : ℕ). Rebuilds (in_form f p) end) (sym form) (tables_then p shows))
       fills_then
-      (subst (λ (n : ℕ). IsSeated (record s.journal { seat = landed_seat s.journal.seat (Area gate) }) n then) (sym size) seated_then)
+      seated_then
       (λ h. let h' = honest h in let d = doubts h' in
-      let e = entry_waits first t0 old new s s' b next c effect caller call tr later sizes honest moments in
+      let e = entry_waits first t0 old new s s' b next c effect caller call reply tr later sizes honest moments in
       let got = carry.doubt first (tapes_of s) t0 s.journal s'.journal b b s.history.items effect base.form base.payloads x e (moments h') (tr.upright.held h') tr.may.sure (spells h') d.0 d.1 refl (fits.behind, to_form, waits_then) in
       subst (λ (r : Rebuilt). IsHeld first (tapes_of s) t0 s'.journal new b r (s.history.items ++ e ∷ [])) (same_end got.0 got.1) got.2)

@@ -2,7 +2,6 @@
 use Rattle.std.proofs.Common.{◌≡◌, inl, inr, ℕ, ◌≤◌, [], ◌∷◌, ◌++◌, Option, Some, None, IsTrue, refl, sym, ◌∙◌, ap, subst, arith}
 use Rattle.voice_outside.specs.Disk.{Told}
 use Rattle.voice_units.specs.declared.shapes.Shape.{Shape}
-use Rattle.voice_units.specs.Spots.{samples_in}
 use Rattle.voice_journal.specs.Places.{JournalValue, landed as landed_seat}
 use Rattle.voice_journal.specs.Readings.{extent}
 use Rattle.voice_journal.specs.declared.seats.Seat.{Seat}
@@ -22,8 +21,8 @@ use Rattle.voice_model.specs.declared.changes.Change.{Change}
 use Rattle.voice_model.proofs.StatesKept.{state_kept}
 use Rattle.recovery.specs.Shown.{Rebuilds}
 use Rattle.recovery.specs.declared.parts.Parts.{Parts}
-use Rattle.next_ropes.specs.Ready.{IsReady}
-use Rattle.next_ropes.specs.declared.NextRope.{NextRope}
+use Rattle.next_changes.specs.Next.{IsNext}
+use Rattle.next_changes.specs.declared.NextChange.{NextChange}
 use Rattle.crash_laws.specs.Standing.{IsHeld}
 use Rattle.voice_store.specs.declared.inside.Inside.{Inside}
 use Rattle.voice_store.specs.declared.inside.Doubted.{Doubted}
@@ -34,53 +33,50 @@ use Rattle.voice_store.proofs.Pushed.{stood_pushed}
 use Rattle.voice_store.proofs.Settled.{is_true}
 
 -- a place in the journal that another value of it has too
-seated_as : (j j' : JournalValue) (n m : ℕ) (s : State) → j'.shape ≡ j.shape → j'.seat ≡ j.seat → m ≡ n → IsSeated j n s → IsSeated j' m s
-seated_as j j' n m s shape seat size is =
+seated_as : (j j' : JournalValue) (s : State) → j'.shape ≡ j.shape → j'.seat ≡ j.seat → IsSeated j s → IsSeated j' s
+seated_as j j' s shape seat is =
     let area : j'.shape.area ≡ j.shape.area = ap (λ (x : Shape). x.area) shape in
     let gate : j'.seat.gate ≡ j.seat.gate = ap (λ (x : Seat). x.gate) seat in
     let left = is.left in
-    record { shape = is.shape ∙ sym shape; left = omega (arith, left, gate, area); epoch = is.epoch ∙ sym (ap (λ (x : Seat). x.epoch) seat); base = size ∙ is.base }
+    record { shape = is.shape ∙ sym shape; left = omega (arith, left, gate, area); epoch = is.epoch ∙ sym (ap (λ (x : Seat). x.epoch) seat) }
 
 -- what is rebuilt has the shape of the journal
-pub shape_tried : (first : State) (t0 : ℕ) (old : Told) (s : Inside) (b : Rebuilt) (next : NextRope) (c : Change) (effect : Effect Tagged) (caller : ℕ) (call : Call)
-    → Trying first t0 old s b next c effect caller call → b.shape ≡ s.journal.shape
-shape_tried first t0 old s b next c effect caller call tr = ap (λ (d : Durable Tagged). d.shape) tr.upright.fills.kept ∙ tr.upright.seated.shape
+pub shape_tried : (first : State) (t0 : ℕ) (old : Told) (s : Inside) (b : Rebuilt) (next : NextChange) (c : Change) (effect : Effect Tagged) (caller : ℕ) (call : Call) (reply : Reply)
+    → Trying first t0 old s b next c effect caller call reply → b.shape ≡ s.journal.shape
+shape_tried first t0 old s b next c effect caller call reply tr = ap (λ (d : Durable Tagged). d.shape) tr.upright.fills.kept ∙ tr.upright.seated.shape
 
-module _ (first : State) (t0 : ℕ) (old new : Told) (s s' : Inside) (b : Rebuilt) (next : NextRope) (c : Change) (effect : Effect Tagged) (caller : ℕ) (call : Call)
-    (tr : Trying first t0 old s b next c effect caller call) (later : old.calls ≤ new.calls) (sizes : new.size ≡ old.size) where
+module _ (first : State) (t0 : ℕ) (old new : Told) (s s' : Inside) (b : Rebuilt) (next : NextChange) (c : Change) (effect : Effect Tagged) (caller : ℕ) (call : Call) (reply : Reply)
+    (tr : Trying first t0 old s b next c effect caller call reply) (later : old.calls ≤ new.calls) (sizes : new.size ≡ old.size) where
   abbrev last : State
   last = last_of first s
 
   abbrev pub said : Reply → Entry
-  said reply = entry_of caller call reply new.calls
-
-  abbrev pub done_reply : Reply
-  done_reply = replies.Rope next.id (samples_in next.pieces)
+  said answer = entry_of caller call answer new.calls
 
   shape_fits : s'.journal.shape ≡ s.journal.shape → extent s'.journal.shape ≤ new.size
   shape_fits shape = let is = tr.size in subst (λ (x : Shape). extent x ≤ new.size) (sym shape) (omega (arith, is, sizes))
 
   -- ---- it is done
 
-  answers_done : IsAnswer last (tapes_of s) (said done_reply)
-  answers_done = subst (λ (r : Reply). IsReply last (tapes_of s) caller call r) tr.reply tr.may.answers
+  answers_done : IsAnswer last (tapes_of s) (said reply)
+  answers_done = subst (λ (r : Reply). IsReply last (tapes_of s) caller call r) tr.replies tr.may.answers
 
-  pub next_done : state_after last (tapes_of s) (said done_reply) ≡ committed last last.form effect
-  next_done = subst (λ (r : Reply). state_after last (tapes_of s) (said r) ≡ committed last last.form effect) tr.reply (tr.may.commits new.calls)
+  pub next_done : state_after last (tapes_of s) (said reply) ≡ committed last last.form effect
+  next_done = subst (λ (r : Reply). state_after last (tapes_of s) (said r) ≡ committed last last.form effect) tr.replies (tr.may.commits new.calls)
 
-  pub stood_done : (after' : Rebuilt) (doubt : Doubt) (base : ℕ) → (tapes : s'.tapes ≡ s.tapes) → s'.history.items ≡ s.history.items ++ said done_reply ∷ []
-      → s'.journal.shape ≡ s.journal.shape → s'.journal.seat ≡ landed_seat s.journal.seat doubt → s'.journal.doubt ≡ None → s'.doubt ≡ None → s'.base ≡ base
+  pub stood_done : (after' : Rebuilt) (doubt : Doubt) → (tapes : s'.tapes ≡ s.tapes) → s'.history.items ≡ s.history.items ++ said reply ∷ []
+      → s'.journal.shape ≡ s.journal.shape → s'.journal.seat ≡ landed_seat s.journal.seat doubt → s'.journal.doubt ≡ None → s'.doubt ≡ None
       → Rebuilds s'.parts after' → Fills tr.later_fill after' (committed last last.form effect)
-      → IsSeated (record s.journal { seat = landed_seat s.journal.seat doubt }) base (committed last last.form effect)
-      → (IsTrue new.honest → IsHeld first (tapes_of s) t0 s'.journal new after' after' (s.history.items ++ said done_reply ∷ []))
+      → IsSeated (record s.journal { seat = landed_seat s.journal.seat doubt }) (committed last last.form effect)
+      → (IsTrue new.honest → IsHeld first (tapes_of s) t0 s'.journal new after' after' (s.history.items ++ said reply ∷ []))
       → Stood first t0 new s'
-  stood_done after' doubt base tapes items shape seat sure none size tables fills seated held =
-      let to : (P : State → Type 0) → P (committed last last.form effect) → P (state_after last (tapes_of s) (said done_reply)) = λ P p. subst P (sym next_done) p in
-      stood_pushed first t0 old new s s' (said done_reply) tapes items tr.fill tr.later_fill b after' b after' tr.upright later refl answers_done
-      (state_kept last (tapes_of s) (said done_reply) tr.upright.valid tr.in_range answers_done)
+  stood_done after' doubt tapes items shape seat sure none tables fills seated held =
+      let to : (P : State → Type 0) → P (committed last last.form effect) → P (state_after last (tapes_of s) (said reply)) = λ P p. subst P (sym next_done) p in
+      stood_pushed first t0 old new s s' (said reply) tapes items tr.fill tr.later_fill b after' b after' tr.upright later refl answers_done
+      (state_kept last (tapes_of s) (said reply) tr.upright.valid tr.in_range answers_done)
       (to (λ t. AreQuiet t.lanes) tr.upright.quiet)
       (to (λ t. Fills tr.later_fill after' t) fills)
-      (to (λ t. IsSeated s'.journal s'.base t) (seated_as (record s.journal { seat = landed_seat s.journal.seat doubt }) s'.journal base s'.base (committed last last.form effect) shape seat size seated))
+      (to (λ t. IsSeated s'.journal t) (seated_as (record s.journal { seat = landed_seat s.journal.seat doubt }) s'.journal (committed last last.form effect) shape seat seated))
       held
       (inl (record { sure = none; in_journal = sure; in_state = to (λ t. t.doubt ≡ None) tr.may.sure; tables = tables; same = refl }))
       (shape_fits shape)
@@ -94,17 +90,17 @@ module _ (first : State) (t0 : ℕ) (old new : Told) (s s' : Inside) (b : Rebuil
   next_failed = tr.may.faults.stays new.calls
 
   pub stood_failed : (tapes : s'.tapes ≡ s.tapes) → s'.history.items ≡ s.history.items ++ said (replies.No why.DiskFault) ∷ []
-      → s'.journal.shape ≡ s.journal.shape → s'.journal.seat ≡ s.journal.seat → s'.journal.doubt ≡ None → s'.doubt ≡ None → s'.base ≡ s.base → Rebuilds s'.parts b
+      → s'.journal.shape ≡ s.journal.shape → s'.journal.seat ≡ s.journal.seat → s'.journal.doubt ≡ None → s'.doubt ≡ None → Rebuilds s'.parts b
       → (IsTrue new.honest → IsHeld first (tapes_of s) t0 s'.journal new b b (s.history.items ++ said (replies.No why.DiskFault) ∷ []))
       → Stood first t0 new s'
-  stood_failed tapes items shape seat sure none size tables held =
+  stood_failed tapes items shape seat sure none tables held =
       let e = said (replies.No why.DiskFault) in
       let to : (P : State → Type 0) → P last → P (state_after last (tapes_of s) e) = λ P p. subst P (sym next_failed) p in
       stood_pushed first t0 old new s s' e tapes items tr.fill tr.fill b b b b tr.upright later refl tr.may.faults.answers
       (to (λ t. IsState t) tr.upright.valid)
       (to (λ t. AreQuiet t.lanes) tr.upright.quiet)
       (to (λ t. Fills tr.fill b t) tr.upright.fills)
-      (to (λ t. IsSeated s'.journal s'.base t) (seated_as s.journal s'.journal s.base s'.base last shape seat size tr.upright.seated))
+      (to (λ t. IsSeated s'.journal t) (seated_as s.journal s'.journal last shape seat tr.upright.seated))
       held
       (inl (record { sure = none; in_journal = sure; in_state = to (λ t. t.doubt ≡ None) tr.may.sure; tables = tables; same = refl }))
       (shape_fits shape)
@@ -129,13 +125,13 @@ module _ (first : State) (t0 : ℕ) (old new : Told) (s s' : Inside) (b : Rebuil
 
   pub stood_waits : (after' : Rebuilt) (doubt : Doubt) (doubted : Doubted) → doubted.next ≡ next → (tapes : s'.tapes ≡ s.tapes)
       → s'.history.items ≡ s.history.items ++ said (replies.No why.InDoubt) ∷ []
-      → s'.journal.shape ≡ s.journal.shape → s'.journal.seat ≡ s.journal.seat → s'.journal.doubt ≡ Some doubt → s'.doubt ≡ Some doubted → s'.base ≡ s.base → s'.parts ≡ s.parts
+      → s'.journal.shape ≡ s.journal.shape → s'.journal.seat ≡ s.journal.seat → s'.journal.doubt ≡ Some doubt → s'.doubt ≡ Some doubted → s'.parts ≡ s.parts
       → ((parts : Parts) → Rebuilds parts (acted b c) → Rebuilds (in_form doubted.form parts) after')
       → Fills tr.later_fill after' (committed last last.form effect)
-      → IsSeated (record s.journal { seat = landed_seat s.journal.seat doubt }) doubted.base (committed last last.form effect)
+      → IsSeated (record s.journal { seat = landed_seat s.journal.seat doubt }) (committed last last.form effect)
       → (IsTrue new.honest → IsHeld first (tapes_of s) t0 s'.journal new b after' (s.history.items ++ said (replies.No why.InDoubt) ∷ []))
       → Stood first t0 new s'
-  stood_waits after' doubt doubted same tapes items shape seat unsure some size parts tables fills seated held =
+  stood_waits after' doubt doubted same tapes items shape seat unsure some parts tables fills seated held =
       let e = said (replies.No why.InDoubt) in
       let to : (P : State → Type 0) → P waiting → P (state_after last (tapes_of s) e) = λ P p. subst P (sym next_waits) p in
       let there : (P : State → Type 0) → P (committed last last.form effect) → P (landed waiting) = λ P p. subst P (sym lands_then) p in
@@ -144,8 +140,8 @@ module _ (first : State) (t0 : ℕ) (old new : Told) (s s' : Inside) (b : Rebuil
       (to (λ t. IsState t) valid_waits)
       (to (λ t. AreQuiet t.lanes) tr.upright.quiet)
       (to (λ t. Fills tr.fill b t) (record { spots = tr.upright.fills.spots; kept = tr.upright.fills.kept; form = tr.upright.fills.form }))
-      (to (λ t. IsSeated s'.journal s'.base t)
-      (seated_as s.journal s'.journal s.base s'.base waiting shape seat size (record { shape = tr.upright.seated.shape; left = tr.upright.seated.left; epoch = tr.upright.seated.epoch; base = tr.upright.seated.base })))
+      (to (λ t. IsSeated s'.journal t)
+      (seated_as s.journal s'.journal waiting shape seat (record { shape = tr.upright.seated.shape; left = tr.upright.seated.left; epoch = tr.upright.seated.epoch })))
       held
       (inr (record {
         doubted = doubted;
@@ -155,7 +151,7 @@ module _ (first : State) (t0 : ℕ) (old new : Told) (s s' : Inside) (b : Rebuil
         doubt = doubt;
         in_journal = unsure;
         change = c;
-        ready = subst (λ (p : Parts). IsReady p b doubted.next c) (sym parts) (subst (λ (n : NextRope). IsReady s.parts b n c) (sym same) tr.ready);
+        ready = subst (λ (p : Parts). IsNext p b doubted.next c) (sym parts) (subst (λ (n : NextChange). IsNext s.parts b n c) (sym same) tr.ready);
         addresses = tr.addresses;
         spelled = tr.change;
         later_fill = tr.later_fill;
@@ -164,8 +160,8 @@ module _ (first : State) (t0 : ℕ) (old new : Told) (s s' : Inside) (b : Rebuil
           tables = tables;
           fill = tr.later_fill;
           fills = there (λ t. Fills tr.later_fill after' t) fills;
-          seated = there (λ t. IsSeated (record s'.journal { seat = landed_seat s'.journal.seat doubt }) doubted.base t)
-              (seated_as (record s.journal { seat = landed_seat s.journal.seat doubt }) (record s'.journal { seat = landed_seat s'.journal.seat doubt }) doubted.base doubted.base (committed last last.form effect) shape seat_then refl seated);
+          seated = there (λ t. IsSeated (record s'.journal { seat = landed_seat s'.journal.seat doubt }) t)
+              (seated_as (record s.journal { seat = landed_seat s.journal.seat doubt }) (record s'.journal { seat = landed_seat s'.journal.seat doubt }) (committed last last.form effect) shape seat_then seated);
           valid = valid_landed;
         });
       }))

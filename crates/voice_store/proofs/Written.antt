@@ -18,7 +18,11 @@ use Rattle.voice_model.specs.Replay.{Rebuilt, acted, durable_by, recovered, all_
 use Rattle.voice_model.specs.Base.{change_of}
 use Rattle.voice_model.specs.Spelling.{spelling}
 use Rattle.voice_model.specs.declared.calls.Call.TheVariants as calls
+use Rattle.voice_model.specs.declared.calls.Reply.{Reply}
 use Rattle.voice_model.specs.declared.calls.Reply.TheVariants as replies
+use Rattle.next_changes.specs.declared.NextChange.{NextChange}
+use Rattle.next_changes.specs.declared.NextChange.TheVariants as changes
+use Rattle.voice_store.specs.declared.committing.Plan.{Plan}
 use Rattle.voice_model.specs.declared.calls.Why.TheVariants as why
 use Rattle.voice_model.specs.declared.calls.Entry.{Entry}
 use Rattle.voice_model.specs.declared.changes.Change.{Change}
@@ -42,7 +46,7 @@ use Rattle.crash_laws.proofs.Noted.{entries_count}
 use Rattle.voice_store.specs.declared.inside.Inside.{Inside}
 use Rattle.voice_store.specs.Stood.{last_of, tapes_of, Upright, IsSure, Stood}
 use Rattle.voice_store.specs.Facts.{MayCommit, entry_of}
-use Rattle.voice_store.specs.Trying.{Trying}
+use Rattle.voice_store.specs.Trying.{IsPlan, Trying}
 use Rattle.voice_store.specs.Keeping.{HasRoom, HoldsRecording, recorded_by}
 use Rattle.voice_store.specs.declared.ways.Way.{Way}
 use Rattle.voice_store.proofs.Kept.{is_sure, upright_by, same_number, same_shape}
@@ -54,7 +58,7 @@ use Rattle.voice_store.proofs.Taking.{later_fill, later_spots, brings_recording}
 
 -- a recording makes a rope and does nothing else
 recording_makes : (s : State) (tapes : List (List ℕ)) (take : Take) → IsMaking s tapes (calls.Record take)
-recording_makes s tapes take = record { built = refl; changing = refl; lanes = refl; closes = refl; reaches = refl; reply = refl; range = tt }
+recording_makes s tapes take = record { built = refl; changing = refl; lanes = refl; closes = refl; reaches = refl; range = tt }
 
 bytes_recorded : (id place : ℕ) (bytes : List ℕ) → bytes_of (recorded_from id place bytes) ≡ bytes
 bytes_recorded id place [] = refl
@@ -64,12 +68,21 @@ bytes_recorded id place (byte ∷ bytes) = ap (λ l. byte ∷ l) (bytes_recorded
 abbrev pub change_in : Rebuilt → NextRope → Change
 change_in b next = next_change b.form next
 
+-- a change brings one rope
+pub same_rope : (next : NextChange) (a b : NextRope) → next ≡ changes.Rope a → next ≡ changes.Rope b → a ≡ b
+same_rope next a b p q = let e : changes.Rope a ≡ changes.Rope b = sym p ∙ q in cc
+
+-- a rope that holds a recording, and gets into the journal so
+abbrev pub Goes : State → ℕ → Told → Inside → Take → Plan → NextRope → Type 0
+Goes first t0 disk s take plan rope =
+    (h : HoldsRecording first t0 disk s take rope) × IsPlan s.journal (last_of first s) (recorded_by (last_of first s) (tapes_of s) take) (acted h.makes.stood.b (change_in h.makes.stood.b rope)) plan
+
 -- its rope is ready
-abbrev pub holding : (first : State) (t0 : ℕ) (disk : Told) (s : Inside) (take : Take) (need : ℕ) (way : Way) (room : HasRoom first t0 disk s take need way) (parts : Parts) (next : NextRope)
+abbrev pub holding : (first : State) (t0 : ℕ) (disk : Told) (s : Inside) (take : Take) (way : Way) (room : HasRoom first t0 disk s take way) (parts : Parts) (next : NextRope)
     → IsReady parts room.makes.stood.b next (change_in room.makes.stood.b next) → next.recorded ≡ true → length next.addresses.items ≡ blocks_for s.journal.shape.block take.len
     → all_differ next.addresses.items ≡ true → list_all (is_free_address room.makes.stood.b) next.addresses.items ≡ true → next.pieces ≡ pieces_of (spots_from next.id 0 take.len)
     → HoldsRecording first t0 disk (record s { parts = parts }) take next
-holding first t0 disk s take need way room parts next ready recorded many differ spare pieces = record {
+holding first t0 disk s take way room parts next ready recorded many differ spare pieces = record {
   before = s.parts;
   makes = room.makes;
   free = room.free;
@@ -154,8 +167,11 @@ module _ (first : State) (t0 : ℕ) (old : Told) (s : Inside) (take : Take) (nex
       let size = size_again b.form last.kept.shape.block addresses effect (count last.kept.shape.block (ap (λ (x : Shape). x.block) h.makes.stood.upright.seated.shape)) in
       ap (λ n. 5 + n) (sym (ap length h.ready.payload ∙ ap (λ x. length (spelling x)) the_change ∙ size ∙ ap (λ f. 17 + sizes.address_size f * blocks_for last.kept.shape.block (length (recording last.next bytes))) form))
 
-  reply : reply_of last (tapes_of s) (calls.Record take) ≡ replies.Rope next.id (samples_in next.pieces)
-  reply = ap (replies.Rope last.next) (samples_many ∙ sym samples_are) ∙ ap (λ n. replies.Rope n (samples_in next.pieces)) (sym (h.ready.number ∙ number))
+  abbrev reply : Reply
+  reply = replies.Rope next.id (samples_in next.pieces)
+
+  reply_is : reply_of last (tapes_of s) (calls.Record take) ≡ reply
+  reply_is = ap (replies.Rope last.next) (samples_many ∙ sym samples_are) ∙ ap (λ n. replies.Rope n (samples_in next.pieces)) (sym (h.ready.number ∙ number))
 
   abbrev pub later : Spot → Tagged
   later = later_fill h.makes.stood.fill last.next bytes
@@ -192,8 +208,8 @@ module _ (first : State) (t0 : ℕ) (old : Told) (s : Inside) (take : Take) (nex
     }
 
     -- all was written
-    pub trying_recording : (caller : ℕ) → (IsTrue old.honest → HasBytes new.bytes s.journal.shape addresses bytes) → Trying first t0 new s b next change effect caller (calls.Record take)
-    trying_recording caller has = record {
+    pub trying_recording : (caller : ℕ) → (IsTrue old.honest → HasBytes new.bytes s.journal.shape addresses bytes) → (answer : Reply) → answer ≡ reply → Trying first t0 new s b (changes.Rope next) change effect caller (calls.Record take) answer
+    trying_recording caller has answer answers = record {
       fill = h.makes.stood.fill;
       upright = upright_on;
       sure = h.makes.sure;
@@ -202,7 +218,7 @@ module _ (first : State) (t0 : ℕ) (old : Told) (s : Inside) (take : Take) (nex
       addresses = addresses;
       change = the_change;
       may = may caller;
-      reply = reply;
+      replies = reply_is ∙ sym answers;
       in_range = tt;
       later_fill = later;
       brings_it = record { spots = later_spots h.makes.stood.fill h.makes.stood.upright.fills.spots last.next bytes; kept = brings_kept };

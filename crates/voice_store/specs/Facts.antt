@@ -94,5 +94,6 @@ is_edit _ = false
 -- how many device calls the answer to a call takes at most, with a landing before it
 abbrev pub most_calls : ℕ → Call → ℕ
 most_calls block (calls.Length id) = 0
+most_calls block (calls.Lookup class key) = 0
 most_calls block (calls.Record take) = 8 + take.len
 most_calls block _ = 8

@@ -1,10 +1,10 @@
 -- An edit, or a recording, on its way to the journal.
 --     MakesRope first t0 disk s call pieces      nothing is in doubt, and nothing refuses the call that makes a rope of these pieces, but perhaps the journal
---     HasWay first t0 disk s call pieces need way      the journal does not refuse it either; so the rope gets there, and a base takes so many bytes then
+--     HasWay first t0 disk s call pieces way      the journal does not refuse it either; so the rope gets there
 --     refused_by next block spare n      why a recording of n samples is refused, but for the journal's room
 --     MakesRecording first t0 disk s take      nothing is in doubt, and nothing refuses a recording, but perhaps the journal
 --     recorded_by s tapes take      the change that a recording makes
---     HasRoom first t0 disk s take need way      the journal does not refuse it either; so it gets there, and a base takes so many bytes then
+--     HasRoom first t0 disk s take way      the journal does not refuse it either; so it gets there
 --     HoldsRecording first t0 disk s take next      its rope is ready in the tables, at addresses that were free
 use Rattle.std.specs.Prelude.{◌≡◌, ℕ, nat_lt, true, false, List, [], ◌∷◌, length, Option, None, IsTrue}
 use Rattle.std.specs.List.{list_all}
@@ -17,7 +17,6 @@ use Rattle.voice_model.specs.Samples.{Tagged, recording}
 use Rattle.voice_model.specs.State.{State, Effect}
 use Rattle.voice_model.specs.State.Effect.{Recorded, Edited}
 use Rattle.voice_model.specs.Replay.{all_differ, is_free_address}
-use Rattle.voice_model.specs.Changes.{changed, base_size}
 use Rattle.voice_model.specs.Step.{first_of, if_long, when, last_rope, is_journal_full}
 use Rattle.voice_model.specs.Tapes.{HasTake, taken}
 use Rattle.voice_model.specs.declared.calls.Call.TheVariants as calls
@@ -41,12 +40,11 @@ pub record MakesRope (first : State) (t0 : ℕ) (disk : Told) (s : Inside) (call
   pub edits : IsTrue (is_edit call)
   pub rope : IsRopeOf (last_of first s) (tapes_of s) call pieces
 
--- the journal does not refuse it either; so the rope gets there, and a base takes so many bytes then
-pub record HasWay (first : State) (t0 : ℕ) (disk : Told) (s : Inside) (call : Call) (pieces : List Piece) (need : ℕ) (way : Way) : Type 0 where
+-- the journal does not refuse it either; so the rope gets there
+pub record HasWay (first : State) (t0 : ℕ) (disk : Told) (s : Inside) (call : Call) (pieces : List Piece) (way : Way) : Type 0 where
   pub makes : MakesRope first t0 disk s call pieces
   pub goes : IsWay (last_of first s) (Edited (last_of first s).next makes.rope.samples) way
   pub free : is_journal_full (last_of first s) (Edited (last_of first s).next makes.rope.samples) ≡ false
-  pub needs : need ≡ base_size (last_of first s).form (changed (last_of first s).form (last_of first s).kept (Edited (last_of first s).next makes.rope.samples))
 
 -- why a recording of n samples is refused, but for the journal's room, by the next number, the length of a block and the free addresses
 abbrev pub refused_by : ℕ → ℕ → ℕ → ℕ → Option Why
@@ -63,12 +61,11 @@ pub record MakesRecording (first : State) (t0 : ℕ) (disk : Told) (s : Inside) 
 abbrev pub recorded_by : State → List (List ℕ) → Take → Effect Tagged
 recorded_by s tapes take = Recorded s.next (recording s.next (taken tapes take))
 
--- the journal does not refuse it either; so it gets there, and a base takes so many bytes then
-pub record HasRoom (first : State) (t0 : ℕ) (disk : Told) (s : Inside) (take : Take) (need : ℕ) (way : Way) : Type 0 where
+-- the journal does not refuse it either; so it gets there
+pub record HasRoom (first : State) (t0 : ℕ) (disk : Told) (s : Inside) (take : Take) (way : Way) : Type 0 where
   pub makes : MakesRecording first t0 disk s take
   pub goes : IsWay (last_of first s) (recorded_by (last_of first s) (tapes_of s) take) way
   pub free : is_journal_full (last_of first s) (recorded_by (last_of first s) (tapes_of s) take) ≡ false
-  pub needs : need ≡ base_size (last_of first s).form (changed (last_of first s).form (last_of first s).kept (recorded_by (last_of first s) (tapes_of s) take))
 
 -- its rope is ready in the tables, which were others before, at addresses that were free there; the journal does not refuse it
 pub record HoldsRecording (first : State) (t0 : ℕ) (disk : Told) (s : Inside) (take : Take) (next : NextRope) : Type 0 where

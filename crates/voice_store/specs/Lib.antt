@@ -1,3 +1,5 @@
+pub mod Altering
+pub mod Asking
 pub mod Facts
 pub mod Keeping
 pub mod Shown

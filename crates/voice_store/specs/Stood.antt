@@ -3,10 +3,10 @@
 --     Fills fill b s      what is rebuilt, filled in so, is what outlives a crash of the state
 --     Brings fill b c s effect      the change, filled in so, is the effect
 --     ShowsState parts s      the tables show what outlives a crash of the state
---     IsSeated journal size s      the journal's place and the size of the base are those of the state
+--     IsSeated journal s      the journal's place is that of the state
 --     AcksRise low history high      the moments of the entries never fall, and lie between these
 --     Upright      the history is legal, and the disk holds it, whatever the tables show
---     IsSure, IsUnsure      the tables show the state: nothing is in doubt, or a rope is ready to come
+--     IsSure, IsUnsure      the tables show the state: nothing is in doubt, or a change is ready to be done
 --     Stood      all of it, but for the count of faults
 use Rattle.std.specs.Prelude.{◌≡◌, ◌⊎◌, ℕ, ◌+◌, ◌≤◌, Bool, true, false, List, [], ◌∷◌, length, replicate, Some, None, IsTrue}
 use Rattle.std.specs.Arc.{arc_value}
@@ -17,7 +17,7 @@ use Rattle.voice_journal.specs.Readings.{extent}
 use Rattle.voice_journal.specs.declared.seats.Doubt.{Doubt}
 use Rattle.voice_model.specs.Samples.{Tagged, spot_of}
 use Rattle.voice_model.specs.State.{State, Effect, LaneState, Pending, quiet_lane}
-use Rattle.voice_model.specs.Changes.{base_size, changed}
+use Rattle.voice_model.specs.Changes.{changed}
 use Rattle.voice_model.specs.Step.{Legal, Outcome, outcome_of, landed}
 use Rattle.voice_model.specs.Step as step
 use Rattle.voice_model.specs.Replay.{Rebuilt, durable_by, acted}
@@ -27,7 +27,7 @@ use Rattle.voice_model.specs.declared.changes.Change.{Change}
 use Rattle.voice_model.specs.declared.calls.Entry.{Entry}
 use Rattle.recovery.specs.Shown.{Rebuilds}
 use Rattle.recovery.specs.declared.parts.Parts.{Parts}
-use Rattle.next_ropes.specs.Ready.{IsReady}
+use Rattle.next_changes.specs.Next.{IsNext}
 use Rattle.crash_laws.specs.Standing.{IsHeld}
 use Rattle.voice_store.specs.declared.inside.Doubted.{Doubted}
 use Rattle.voice_store.specs.declared.inside.Inside.{Inside}
@@ -60,12 +60,11 @@ pub record ShowsState (parts : Parts) (s : State) : Type 0 where
   pub fill : Spot → Tagged
   pub fills : Fills fill rebuilt s
 
--- the journal's place and the size of the base are those of the state
-pub record IsSeated (journal : JournalValue) (size : ℕ) (s : State) : Type 0 where
+-- the journal's place is that of the state
+pub record IsSeated (journal : JournalValue) (s : State) : Type 0 where
   pub shape : s.kept.shape ≡ journal.shape
   pub left : s.left + journal.seat.gate + 1 ≡ journal.shape.area
   pub epoch : s.epoch ≡ journal.seat.epoch
-  pub base : size ≡ base_size s.form s.kept
 
 -- the moments of the entries never fall, and lie between these
 abbrev pub AcksRise : ℕ → List Entry → ℕ → Type 0
@@ -90,7 +89,7 @@ pub record Upright (first : State) (t0 : ℕ) (disk : Told) (s : Inside) (fill :
   pub valid : IsState (last_of first s)
   pub quiet : AreQuiet (last_of first s).lanes
   pub fills : Fills fill b (last_of first s)
-  pub seated : IsSeated s.journal s.base (last_of first s)
+  pub seated : IsSeated s.journal (last_of first s)
   pub acks : AcksRise t0 s.history.items disk.calls
   pub held : IsTrue disk.honest → IsHeld first (tapes_of s) t0 s.journal disk b after s.history.items
 
@@ -105,15 +104,15 @@ pub record IsSure (s : Inside) (b after : Rebuilt) (last : State) : Type 0 where
 abbrev pub in_form : ℕ → Parts → Parts
 in_form form parts = record parts { form = form }
 
--- once what is in doubt has landed, and its rope is put in, the tables show the state
+-- once what is in doubt has landed, and is done, the tables show the state
 pub record Lands (journal : JournalValue) (doubted : Doubted) (b after : Rebuilt) (last : State) (c : Change) (doubt : Doubt) : Type 0 where
   pub tables : (parts : Parts) → Rebuilds parts (acted b c) → Rebuilds (in_form doubted.form parts) after
   pub fill : Spot → Tagged
   pub fills : Fills fill after (landed last)
-  pub seated : IsSeated (record journal { seat = landed_seat journal.seat doubt }) doubted.base (landed last)
+  pub seated : IsSeated (record journal { seat = landed_seat journal.seat doubt }) (landed last)
   pub valid : IsState (landed last)
 
--- a change is in doubt, and its rope is ready to come
+-- a change is in doubt, and ready to be done
 pub record IsUnsure (s : Inside) (b after : Rebuilt) (last : State) : Type 0 where
   pub doubted : Doubted
   pub unsure : s.doubt ≡ Some doubted
@@ -122,7 +121,7 @@ pub record IsUnsure (s : Inside) (b after : Rebuilt) (last : State) : Type 0 whe
   pub doubt : Doubt
   pub in_journal : s.journal.doubt ≡ Some doubt
   pub change : Change
-  pub ready : IsReady s.parts b doubted.next change
+  pub ready : IsNext s.parts b doubted.next change
   pub addresses : List ℕ
   pub spelled : change ≡ change_of b.form addresses pending.effect
   pub later_fill : Spot → Tagged

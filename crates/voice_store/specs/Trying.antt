@@ -1,17 +1,17 @@
 -- A change that is about to be made.
 --     IsBaseOf shape r base      a base of what is rebuilt, in the form that a switch takes
 --     Trying      all that is known as a change goes to the journal
---     IsReadyIn s next      a rope is ready in the tables of a store
+--     IsReadyIn s next      a change is ready in the tables of a store
 --     IsPlan journal s effect r plan      the change gets into the journal so; r is what is rebuilt after it
 --     CanGo journal next plan      the plan's bytes fit where they go
 use Rattle.std.specs.Prelude.{◌≡◌, ℕ, ◌+◌, ◌-◌, ◌≤◌, ◌<◌, ◌^◌, ◌||◌, ◌==◌, nat_le, cond, List, map, length, None, IsTrue}
 use Rattle.voice_units.specs.declared.shapes.Shape.{Shape}
-use Rattle.voice_units.specs.Spots.{Spot, samples_in}
+use Rattle.voice_units.specs.Spots.{Spot}
 use Rattle.voice_outside.specs.Disk.{Told}
 use Rattle.voice_journal.specs.Readings.{extent, framed_size}
 use Rattle.voice_model.specs.Samples.{Tagged}
 use Rattle.voice_model.specs.State.{State, Effect}
-use Rattle.voice_model.specs.Changes.{changed, base_size, frame_size}
+use Rattle.voice_model.specs.Changes.{changed, frame_size}
 use Rattle.voice_journal.specs.Places.{JournalValue}
 use Rattle.voice_model.specs.Spelling.{spelling}
 use Rattle.voice_model.specs.Step.{reply_of}
@@ -22,10 +22,10 @@ use Rattle.voice_model.specs.Valid.{InRange, IsRebuilt}
 use Rattle.recovery.specs.Shown.{plain_sample}
 use Rattle.voice_model.specs.Places.{IsPlaced, AllUsed, CanBeSpelled}
 use Rattle.voice_model.specs.declared.calls.Call.{Call}
-use Rattle.voice_model.specs.declared.calls.Reply.TheVariants.{Rope}
+use Rattle.voice_model.specs.declared.calls.Reply.{Reply}
 use Rattle.voice_model.specs.declared.changes.Change.{Change}
-use Rattle.next_ropes.specs.Ready.{IsReady}
-use Rattle.next_ropes.specs.declared.NextRope.{NextRope}
+use Rattle.next_changes.specs.Next.{IsNext, payload_of}
+use Rattle.next_changes.specs.declared.NextChange.{NextChange}
 use Rattle.voice_store.specs.declared.committing.Base.{Base}
 use Rattle.voice_store.specs.declared.committing.Plan.{Plan}
 use Rattle.voice_store.specs.declared.committing.Plan.TheVariants as plans
@@ -49,36 +49,36 @@ pub record IsBaseOf (shape : Shape) (r : Rebuilt) (base : Base) : Type 0 where
   pub used : AllUsed r
 
 -- all that is known as a change goes to the journal
-pub record Trying (first : State) (t0 : ℕ) (disk : Told) (s : Inside) (b : Rebuilt) (next : NextRope) (c : Change) (effect : Effect Tagged) (caller : ℕ) (call : Call) : Type 0 where
+pub record Trying (first : State) (t0 : ℕ) (disk : Told) (s : Inside) (b : Rebuilt) (next : NextChange) (c : Change) (effect : Effect Tagged) (caller : ℕ) (call : Call) (reply : Reply) : Type 0 where
   pub fill : Spot → Tagged
   pub upright : Upright first t0 disk s fill b b
   pub sure : s.doubt ≡ None
   pub in_journal : s.journal.doubt ≡ None
-  pub ready : IsReady s.parts b next c
+  pub ready : IsNext s.parts b next c
   pub addresses : List ℕ
   pub change : c ≡ change_of b.form addresses effect
   pub may : MayCommit (last_of first s) (tapes_of s) caller call effect
-  pub reply : reply_of (last_of first s) (tapes_of s) call ≡ Rope next.id (samples_in next.pieces)
+  pub replies : reply_of (last_of first s) (tapes_of s) call ≡ reply
   pub in_range : InRange call
   pub later_fill : Spot → Tagged
   pub brings_it : Brings later_fill b c (last_of first s) effect
   pub does : IsTrue disk.honest → recovered disk.bytes (acted b c) ≡ changed (last_of first s).form (last_of first s).kept effect
-  pub frame : frame_size (last_of first s).form (last_of first s).kept.shape.block effect ≡ 5 + length next.payload.items
+  pub frame : frame_size (last_of first s).form (last_of first s).kept.shape.block effect ≡ 5 + length (payload_of next)
   pub size : extent s.journal.shape ≤ disk.size
 
--- a rope is ready in the tables of a store
-pub record IsReadyIn (s : Inside) (next : NextRope) : Type 0 where
+-- a change is ready in the tables of a store
+pub record IsReadyIn (s : Inside) (next : NextChange) : Type 0 where
   pub b : Rebuilt
   pub c : Change
-  pub ready : IsReady s.parts b next c
+  pub ready : IsNext s.parts b next c
   pub in_shape : b.shape ≡ s.journal.shape
 
 -- the change gets into the journal so; r is what is rebuilt after it
 abbrev pub IsPlan : JournalValue → State → Effect Tagged → Rebuilt → Plan → Type 0
-IsPlan journal s effect r (plans.Append need) = FitsBehind s effect × (need ≡ base_size s.form (changed s.form s.kept effect))
+IsPlan journal s effect r plans.Append = FitsBehind s effect
 IsPlan journal s effect r (plans.Switch base) = FitsOther s effect × IsBaseOf journal.shape r base
 
 -- the plan's bytes fit where they go
-abbrev pub CanGo : JournalValue → NextRope → Plan → Type 0
-CanGo journal next (plans.Append need) = journal.seat.gate + 5 + length next.payload.items < journal.shape.area
+abbrev pub CanGo : JournalValue → NextChange → Plan → Type 0
+CanGo journal next plans.Append = journal.seat.gate + 5 + length (payload_of next) < journal.shape.area
 CanGo journal next (plans.Switch base) = (framed_size base.payloads + 17 ≤ journal.shape.area) × (journal.seat.epoch < 2 ^ 48)

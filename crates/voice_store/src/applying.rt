@@ -1,32 +1,37 @@
 //! One call of the store.
 
-ghost use Rattle.std.specs.Prelude.{◌≡◌, ◌+◌, ◌≤◌, ◌<◌, ◌++◌, ◌∷◌, [], ℕ, None, true, false, is_some, IsTrue, IfSome, IfNone, IsOk, IfOk, OnErr, vec_len, vec_capacity};
+ghost use Rattle.std.specs.Prelude.{◌≡◌, ◌+◌, ◌≤◌, ◌<◌, ◌++◌, ◌∷◌, [], ℕ, None, true, false, is_some, IsTrue, IsOk, IfOk, OnErr, vec_len, vec_capacity};
 ghost use Rattle.voice_outside.specs.Counters.{HasRisen};
 ghost use Rattle.voice_model.specs.State.{State};
 ghost use Rattle.voice_model.specs.Changes.{is_changing};
 ghost use Rattle.voice_model.specs.Step.{landing_failed};
+ghost use Rattle.voice_model.specs.Valid.{InRange};
+ghost use Rattle.voice_store.specs.Asking.{IsAsking};
 ghost use Rattle.voice_store.specs.Stood.{Stood, last_of, tapes_of};
 ghost use Rattle.voice_store.specs.Facts.{Adds, AddsLanding, Goes, HasRopes, IsFault, TakesAreIn, entry_of, most_calls};
 ghost use Rattle.built_calls.specs.Built.{is_built};
 
 use crate::inside::Inside;
-use voice_model::{Call, Reply, Why};
+use voice_model::{Call, Class, Key, Reply, Why};
 use voice_outside::Disk;
 use voice_units::{NoMemory, RopeId};
 
-// The rope whose length a call asks, if it does.
-fn asked_length(call: &Call) -> Option<RopeId>
+/// What a call asks of the tables, or that it is of a kind that makes changes.
+enum Asks {
+    Length(RopeId),
+    Interest(Class, Key),
+    Change,
+}
+
+// What a call asks.
+fn asked_of(call: &Call) -> Asks
     requires { IsTrue (is_built call.now) }
-    ensures some { IfSome result (λ rope. call.now ≡ Call.Length rope) }
-    ensures none { IfNone result (IsTrue (is_changing call.now)) }
+    ensures { IsAsking call.now result }
 {
     match call {
-        Call::Length(rope) => Some(*rope),
-        Call::Record(_) => None,
-        Call::Concat(_) => None,
-        Call::Sub(_, _, _) => None,
-        Call::Replace(_, _, _, _) => None,
-        _ => unreachable!(),
+        Call::Length(rope) => Asks::Length(*rope),
+        Call::Lookup(class, key) => Asks::Interest(*class, *key),
+        _ => Asks::Change,
     }
 }
 
@@ -71,6 +76,7 @@ impl Inside {
         requires changing { IsTrue (is_changing call) }
         requires takes { TakesAreIn (tapes_of self.old) call }
         requires ropes { HasRopes call }
+        requires range { InRange call }
         requires room { vec_len self.old.history < vec_capacity self.old.history }
         ensures goes { (block calls : ℕ) → most_calls block call ≡ calls + 2 → Goes calls (D.told disk.old) (D.told disk.new) }
         ensures cause { IfOk result (λ reply. IsFault reply → HasRisen (D.told disk.old).faults (D.told disk.new).faults) }
@@ -87,7 +93,7 @@ impl Inside {
             Call::Replace(rope, start, len, with) => {
                 self.edit(disk, caller, Call::Replace(rope, start, len, with))
             }
-            _ => unreachable!(),
+            call => self.alter(disk, caller, call),
         }
     }
 
@@ -103,6 +109,7 @@ impl Inside {
         requires changing { IsTrue (is_changing call) }
         requires takes { TakesAreIn (tapes_of self.old) call }
         requires ropes { HasRopes call }
+        requires range { InRange call }
         requires room { vec_len self.old.history + 2 ≤ vec_capacity self.old.history }
         ensures goes { (block : ℕ) → Goes (most_calls block call) (D.told disk.old) (D.told disk.new) }
         ensures cause { IfOk result (λ reply. IsFault reply → HasRisen (D.told disk.old).faults (D.told disk.new).faults) }
@@ -130,20 +137,22 @@ impl Inside {
         requires built { IsTrue (is_built call) }
         requires takes { TakesAreIn (tapes_of self.old) call }
         requires ropes { HasRopes call }
+        requires range { InRange call }
         ensures entry { IfOk result (λ reply. Adds caller call reply (D.told disk.new).calls self.old.history.items self.new.history.items) }
         ensures err { OnErr result (AddsLanding self.old.history.items self.new.history.items) }
         ensures few { OnErr result (Goes 2 (D.told disk.old) (D.told disk.new)) }
         ensures still { self.old.doubt ≡ None → OnErr result ((disk.new ≡ disk.old) × (self.new.history.items ≡ self.old.history.items)) }
-        ensures spare { (rope : ℕ) → call ≡ Call.Length rope → vec_len self.old.history + 2 ≤ vec_capacity self.old.history → IsOk result }
+        ensures spare { is_changing call ≡ false → vec_len self.old.history + 2 ≤ vec_capacity self.old.history → IsOk result }
         ensures cause { IfOk result (λ reply. IsFault reply → HasRisen (D.told disk.old).faults (D.told disk.new).faults) }
         ensures goes { (block : ℕ) → Goes (most_calls block call) (D.told disk.old) (D.told disk.new) }
         ensures tapes { self.new.tapes ≡ self.old.tapes }
         ensures stood { (first : State) (t0 : ℕ) → Stood first t0 (D.told disk.old) self.old → Stood first t0 (D.told disk.new) self.new }
     {
         self.reserve(2)?;
-        if let Some(rope) = asked_length(&call) {
-            return Ok(self.tell_length(disk, caller, rope));
+        match asked_of(&call) {
+            Asks::Length(rope) => Ok(self.tell_length(disk, caller, rope)),
+            Asks::Interest(class, key) => Ok(self.tell_interest(disk, caller, class, key)),
+            Asks::Change => self.land_and_change(disk, caller, call),
         }
-        self.land_and_change(disk, caller, call)
     }
 }

@@ -1,17 +1,15 @@
 //! A change that is ready gets into the journal, and its call is entered.
 
 ghost use Rattle.std.specs.Prelude.{◌≡◌, ◌+◌, ◌≤◌, ◌<◌, ◌^◌, ◌++◌, ◌∷◌, [], ℕ, None, Some, length, vec_len, vec_capacity, IfOk};
-ghost use Rattle.voice_units.specs.Spots.{samples_in};
 ghost use Rattle.voice_outside.specs.Counters.{HasRisen};
 ghost use Rattle.voice_journal.specs.Readings.{extent, framed_size};
 ghost use Rattle.voice_model.specs.Samples.{Tagged};
 ghost use Rattle.voice_model.specs.State.{State, Effect};
-ghost use Rattle.voice_model.specs.Changes.{base_size, changed};
 ghost use Rattle.voice_model.specs.Replay.{Rebuilt, acted};
 ghost use Rattle.voice_model.specs.declared.Change.{Change};
 ghost use Rattle.recovery.specs.Shown.{Rebuilds};
 ghost use Rattle.checkpoint.specs.Compact.{ShowsUsed};
-ghost use Rattle.next_ropes.specs.Ready.{IsReady};
+ghost use Rattle.next_changes.specs.Next.{IsNext, payload_of};
 ghost use Rattle.voice_store.specs.Stood.{Stood, last_of};
 ghost use Rattle.voice_store.specs.Ways.{FitsBehind, FitsOther};
 ghost use Rattle.voice_store.specs.Trying.{IsBaseOf, Trying, IsReadyIn, IsPlan, CanGo};
@@ -21,7 +19,7 @@ use crate::entering::enter;
 use crate::inside::{Doubted, Inside};
 use checkpoint::compact_parts;
 use crash_laws::laws::foundations;
-use next_ropes::{NextRope, give_back, parts_after, perform};
+use next_changes::{NextChange, give_back, parts_after, perform};
 use recovery::Parts;
 use std::alloc::Global;
 use voice_journal::{Fault, Payloads};
@@ -36,10 +34,10 @@ pub(crate) struct Base {
     pub(crate) payloads: Payloads,
 }
 
-/// How a change gets into the journal, with all that it takes: behind the other records, where a base takes so many bytes then; or within a base, in the other area.
+/// How a change gets into the journal, with all that it takes: behind the other records, or within a base, in the other area.
 #[derive(Drop)]
 pub(crate) enum Plan {
-    Append(u64),
+    Append,
     Switch(Base),
 }
 
@@ -59,58 +57,40 @@ fn base_of(alloc: Global, shape: &Shape, parts: &Parts) -> Result<Base, NoMemory
 }
 
 impl Inside {
-    /// The base that a switch writes as this rope comes.
-    pub(crate) fn base_after(&self, next: &NextRope) -> Result<Base, NoMemory>
+    /// The base that a switch writes as this change comes.
+    pub(crate) fn base_after(&self, next: &NextChange) -> Result<Base, NoMemory>
         requires { IsReadyIn self.now next.now }
-        ensures { (b : Rebuilt) (c : Change) → IsReady self.now.parts b next.now c → b.shape ≡ self.now.journal.shape → IfOk result (IsBaseOf self.now.journal.shape (acted b c)) }
+        ensures { (b : Rebuilt) (c : Change) → IsNext self.now.parts b next.now c → b.shape ≡ self.now.journal.shape → IfOk result (IsBaseOf self.now.journal.shape (acted b c)) }
     {
         let shape = self.journal.shape();
         let after = parts_after(self.alloc, &self.parts, &shape, next)?;
         base_of(self.alloc, &shape, &after)
     }
 
-    // The change is done: the rope is put in, and the call is entered.
-    fn done<D: Disk>(
-        &mut self,
-        disk: &D,
-        caller: u16,
-        call: Call,
-        next: NextRope,
-        base: u64,
-    ) -> Reply
+    // The change is done, and the call is entered.
+    fn done<D: Disk>(&mut self, disk: &D, caller: u16, call: Call, reply: Reply, next: NextChange)
         requires ready { IsReadyIn self.old next }
         requires room { vec_len self.old.history < vec_capacity self.old.history }
-        ensures tables { (b : Rebuilt) (c : Change) → IsReady self.old.parts b next c → b.shape ≡ self.old.journal.shape → Rebuilds self.new.parts (acted b c) }
-        ensures items { self.new.history.items ≡ self.old.history.items ++ entry_of caller call (Reply.Rope next.id (samples_in next.pieces)) (D.told disk.now).calls ∷ [] }
-        ensures rest { self.new ≡ record self.old { parts = self.new.parts; base = base; history = self.new.history } }
-        ensures reply { result ≡ Reply.Rope next.id (samples_in next.pieces) }
+        ensures tables { (b : Rebuilt) (c : Change) → IsNext self.old.parts b next c → b.shape ≡ self.old.journal.shape → Rebuilds self.new.parts (acted b c) }
+        ensures items { self.new.history.items ≡ self.old.history.items ++ entry_of caller call reply (D.told disk.now).calls ∷ [] }
+        ensures rest { self.new ≡ record self.old { parts = self.new.parts; history = self.new.history } }
     {
         let shape = self.journal.shape();
-        let id = next.id;
-        let len = next.pieces.length();
         perform(&mut self.parts, &shape, next);
-        self.base = base;
-        enter(
-            &mut self.history,
-            caller,
-            call,
-            Reply::Rope(id, len),
-            disk.calls(),
-        );
-        Reply::Rope(id, len)
+        enter(&mut self.history, caller, call, reply, disk.calls());
     }
 
-    /// A device call failed before the change could be done: its blocks are free again, and the call is entered.
+    /// A device call failed before the change could be done: it is given back, and the call is entered.
     pub(crate) fn failed<D: Disk>(
         &mut self,
         disk: &D,
         caller: u16,
         call: Call,
-        next: NextRope,
+        next: NextChange,
     ) -> Reply
         requires ready { IsReadyIn self.old next }
         requires room { vec_len self.old.history < vec_capacity self.old.history }
-        ensures tables { (b : Rebuilt) (c : Change) → IsReady self.old.parts b next c → Rebuilds self.new.parts b }
+        ensures tables { (b : Rebuilt) (c : Change) → IsNext self.old.parts b next c → Rebuilds self.new.parts b }
         ensures items { self.new.history.items ≡ self.old.history.items ++ entry_of caller call (Reply.No Why.DiskFault) (D.told disk.now).calls ∷ [] }
         ensures rest { self.new ≡ record self.old { parts = self.new.parts; history = self.new.history } }
         ensures reply { result ≡ Reply.No Why.DiskFault }
@@ -126,7 +106,7 @@ impl Inside {
         Reply::No(Why::DiskFault)
     }
 
-    // It is in doubt whether the change is done: the rope waits, and the call is entered.
+    // It is in doubt whether the change is done: it waits, and the call is entered.
     fn wait<D: Disk>(&mut self, disk: &D, caller: u16, call: Call, doubted: Doubted) -> Reply
         requires room { vec_len self.old.history < vec_capacity self.old.history }
         ensures items { self.new.history.items ≡ self.old.history.items ++ entry_of caller call (Reply.No Why.InDoubt) (D.told disk.now).calls ∷ [] }
@@ -144,17 +124,19 @@ impl Inside {
         Reply::No(Why::InDoubt)
     }
 
-    // Appends a change, where it fits behind the other records.
+    // Appends a change, where it fits behind the other records. The reply comes twice: one is entered, and one is answered.
     fn append<D: Disk>(
         &mut self,
         disk: &mut D,
         caller: u16,
         call: Call,
-        next: NextRope,
-        need: u64,
+        replies: (Reply, Reply),
+        next: NextChange,
     ) -> Reply
         requires size { extent self.old.journal.shape ≤ (D.told disk.old).size }
-        requires fits { self.old.journal.seat.gate + 5 + length next.payload.items < self.old.journal.shape.area }
+        requires fits { self.old.journal.seat.gate + 5 + length (payload_of next) < self.old.journal.shape.area }
+        requires twice { replies.1 ≡ replies.0 }
+        requires plain { ¬ IsFault replies.1 }
         requires sure { self.old.journal.doubt ≡ None }
         requires ready { IsReadyIn self.old next }
         requires room { vec_len self.old.history < vec_capacity self.old.history }
@@ -162,39 +144,36 @@ impl Inside {
         ensures cause { IsFault result → HasRisen (D.told disk.old).faults (D.told disk.new).faults }
         ensures items { self.new.history.items ≡ self.old.history.items ++ entry_of caller call result (D.told disk.new).calls ∷ [] }
         ensures tapes { self.new.tapes ≡ self.old.tapes }
-        ensures stood { (first : State) (t0 : ℕ) (b : Rebuilt) (c : Change) (effect : Effect Tagged) → Trying first t0 (D.told disk.old) self.old b next c effect caller call → FitsBehind (last_of first self.old) effect → need ≡ base_size (last_of first self.old).form (changed (last_of first self.old).form (last_of first self.old).kept effect) → Stood first t0 (D.told disk.new) self.new }
+        ensures stood { (first : State) (t0 : ℕ) (b : Rebuilt) (c : Change) (effect : Effect Tagged) → Trying first t0 (D.told disk.old) self.old b next c effect caller call replies.0 → FitsBehind (last_of first self.old) effect → Stood first t0 (D.told disk.new) self.new }
     {
         foundations();
-        match self.journal.append(disk, &next.payload) {
-            Ok(()) => self.done(disk, caller, call, next, need),
+        match self.journal.append(disk, next.payload()) {
+            Ok(()) => {
+                self.done(disk, caller, call, replies.0, next);
+                replies.1
+            }
             Err(Fault::Before) => self.failed(disk, caller, call, next),
             Err(Fault::Doubt) => {
                 let form = self.parts.form;
-                self.wait(
-                    disk,
-                    caller,
-                    call,
-                    Doubted {
-                        next,
-                        base: need,
-                        form,
-                    },
-                )
+                self.wait(disk, caller, call, Doubted { next, form })
             }
         }
     }
 
-    // Writes a base of the state after a change, and makes its area current.
+    // Writes a base of the state after a change, and makes its area current. The reply comes twice.
     fn switch<D: Disk>(
         &mut self,
         disk: &mut D,
         caller: u16,
         call: Call,
-        next: NextRope,
+        replies: (Reply, Reply),
+        next: NextChange,
         base: &Base,
     ) -> Reply
         requires size { extent self.old.journal.shape ≤ (D.told disk.old).size }
         requires fits { framed_size base.now.payloads + 17 ≤ self.old.journal.shape.area }
+        requires twice { replies.1 ≡ replies.0 }
+        requires plain { ¬ IsFault replies.1 }
         requires epoch { self.old.journal.seat.epoch < 2 ^ 48 }
         requires sure { self.old.journal.doubt ≡ None }
         requires ready { IsReadyIn self.old next }
@@ -203,15 +182,14 @@ impl Inside {
         ensures cause { IsFault result → HasRisen (D.told disk.old).faults (D.told disk.new).faults }
         ensures items { self.new.history.items ≡ self.old.history.items ++ entry_of caller call result (D.told disk.new).calls ∷ [] }
         ensures tapes { self.new.tapes ≡ self.old.tapes }
-        ensures stood { (first : State) (t0 : ℕ) (b : Rebuilt) (c : Change) (effect : Effect Tagged) → Trying first t0 (D.told disk.old) self.old b next c effect caller call → FitsOther (last_of first self.old) effect → IsBaseOf self.old.journal.shape (acted b c) base.now → Stood first t0 (D.told disk.new) self.new }
+        ensures stood { (first : State) (t0 : ℕ) (b : Rebuilt) (c : Change) (effect : Effect Tagged) → Trying first t0 (D.told disk.old) self.old b next c effect caller call replies.0 → FitsOther (last_of first self.old) effect → IsBaseOf self.old.journal.shape (acted b c) base.now → Stood first t0 (D.told disk.new) self.new }
     {
         foundations();
-        let size = base.payloads.size();
         match self.journal.switch(disk, &base.payloads) {
             Ok(()) => {
-                let reply = self.done(disk, caller, call, next, size);
+                self.done(disk, caller, call, replies.0, next);
                 self.parts.form = base.form;
-                reply
+                replies.1
             }
             Err(Fault::Before) => self.failed(disk, caller, call, next),
             Err(Fault::Doubt) => self.wait(
@@ -220,24 +198,26 @@ impl Inside {
                 call,
                 Doubted {
                     next,
-                    base: size,
                     form: base.form,
                 },
             ),
         }
     }
 
-    /// Does a change that is ready, and enters its call.
+    /// Does a change that is ready, and enters its call. The reply comes twice: one is entered, and one is answered.
     pub(crate) fn commit<D: Disk>(
         &mut self,
         disk: &mut D,
         caller: u16,
         call: Call,
-        next: NextRope,
+        replies: (Reply, Reply),
+        next: NextChange,
         plan: Plan,
     ) -> Reply
         requires size { extent self.old.journal.shape ≤ (D.told disk.old).size }
         requires can { CanGo self.old.journal next plan }
+        requires twice { replies.1 ≡ replies.0 }
+        requires plain { ¬ IsFault replies.1 }
         requires sure { self.old.journal.doubt ≡ None }
         requires ready { IsReadyIn self.old next }
         requires room { vec_len self.old.history < vec_capacity self.old.history }
@@ -245,11 +225,11 @@ impl Inside {
         ensures cause { IsFault result → HasRisen (D.told disk.old).faults (D.told disk.new).faults }
         ensures items { self.new.history.items ≡ self.old.history.items ++ entry_of caller call result (D.told disk.new).calls ∷ [] }
         ensures tapes { self.new.tapes ≡ self.old.tapes }
-        ensures stood { (first : State) (t0 : ℕ) (b : Rebuilt) (c : Change) (effect : Effect Tagged) → Trying first t0 (D.told disk.old) self.old b next c effect caller call → IsPlan self.old.journal (last_of first self.old) effect (acted b c) plan → Stood first t0 (D.told disk.new) self.new }
+        ensures stood { (first : State) (t0 : ℕ) (b : Rebuilt) (c : Change) (effect : Effect Tagged) → Trying first t0 (D.told disk.old) self.old b next c effect caller call replies.0 → IsPlan self.old.journal (last_of first self.old) effect (acted b c) plan → Stood first t0 (D.told disk.new) self.new }
     {
         match plan {
-            Plan::Append(need) => self.append(disk, caller, call, next, need),
-            Plan::Switch(base) => self.switch(disk, caller, call, next, &base),
+            Plan::Append => self.append(disk, caller, call, replies, next),
+            Plan::Switch(base) => self.switch(disk, caller, call, replies, next, &base),
         }
     }
 }

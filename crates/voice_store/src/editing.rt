@@ -1,17 +1,17 @@
 //! Ropes made of other ropes.
 
-ghost use Rattle.std.specs.Prelude.{◌≡◌, ◌+◌, ◌*◌, ◌≤◌, ◌<◌, ◌==◌, ◌++◌, ◌∷◌, [], ℕ, List, Some, None, false, cond, IsTrue, IfSome, IfOk, OnErr, length, vec_len, vec_capacity};
+ghost use Rattle.std.specs.Prelude.{◌≡◌, ◌+◌, ◌*◌, ◌≤◌, ◌<◌, ◌==◌, ◌++◌, ◌∷◌, [], ℕ, List, Some, None, false, cond, IsTrue, IfOk, OnErr, length, vec_len, vec_capacity};
 ghost use Rattle.voice_units.specs.declared.Piece.{Piece};
+ghost use Rattle.voice_units.specs.Spots.{samples_in};
 ghost use Rattle.voice_outside.specs.Counters.{HasRisen};
 ghost use Rattle.voice_model.specs.Samples.{Tagged};
 ghost use Rattle.voice_model.specs.State.{State, Effect};
-ghost use Rattle.voice_model.specs.Changes.{base_size, changed};
 ghost use Rattle.voice_model.specs.Step.{is_journal_full};
 ghost use Rattle.voice_model.specs.Valid.{IsState};
 ghost use Rattle.voice_model.specs.Replay.{Rebuilt, acted};
 ghost use Rattle.voice_model.specs.declared.Change.{Change};
 ghost use Rattle.edits.specs.Shown.{ShowsState, IsMade};
-ghost use Rattle.next_ropes.specs.Ready.{IsReady};
+ghost use Rattle.next_changes.specs.Next.{IsNext};
 ghost use Rattle.voice_store.specs.Stood.{Stood};
 ghost use Rattle.voice_store.specs.Ways.{IsWay};
 ghost use Rattle.voice_store.specs.Trying.{IsPlan, IsReadyIn};
@@ -21,9 +21,11 @@ ghost use Rattle.voice_store.specs.Keeping.{MakesRope, HasWay};
 use crate::committing::Plan;
 use crate::inside::Inside;
 use crate::ways::Way;
+use checkpoint::parts_size;
 use crash_laws::laws::{disks_are_honest, foundations};
 use edits::{Made, concat, replace, sub};
-use next_ropes::{NextRope, give_back, ready_edit};
+use next_changes::{NextChange, give_back};
+use next_ropes::{NextRope, ready_edit};
 use rope_algebra::Pieces;
 use voice_model::{Call, Reply, Why};
 use voice_outside::Disk;
@@ -37,21 +39,23 @@ pub(crate) fn rope_size(form: u8, pieces: u32) -> u64
     24 + last + 16 * u64::from(pieces)
 }
 
-// The bytes of a base that grows, where they can be told.
-pub(crate) fn sum(base: u64, more: u64) -> Option<u64>
-    ensures { IfSome result (λ n. n ≡ base + more) }
+/// What the call of a rope that is ready is answered, twice.
+pub(crate) fn replies_of(next: &NextRope) -> (Reply, Reply)
+    ensures first { result.0 ≡ Reply.Rope next.now.id (samples_in next.now.pieces) }
+    ensures second { result.1 ≡ Reply.Rope next.now.id (samples_in next.now.pieces) }
 {
-    base.checked_add(more)
+    let len = next.pieces.length();
+    (Reply::Rope(next.id, len), Reply::Rope(next.id, len))
 }
 
 impl Inside {
-    /// How a rope that is ready gets into the journal, where that is not full.
-    pub(crate) fn plan(&self, next: &NextRope, need: u64, way: Way) -> Result<Plan, NoMemory>
+    /// How a change that is ready gets into the journal, where that is not full.
+    pub(crate) fn plan(&self, next: &NextChange, way: Way) -> Result<Plan, NoMemory>
         requires { IsReadyIn self.now next.now }
-        ensures { (b : Rebuilt) (c : Change) (s : State) (effect : Effect Tagged) → IsReady self.now.parts b next.now c → b.shape ≡ self.now.journal.shape → IsWay s effect way → is_journal_full s effect ≡ false → need ≡ base_size s.form (changed s.form s.kept effect) → IfOk result (IsPlan self.now.journal s effect (acted b c)) }
+        ensures { (b : Rebuilt) (c : Change) (s : State) (effect : Effect Tagged) → IsNext self.now.parts b next.now c → b.shape ≡ self.now.journal.shape → IsWay s effect way → is_journal_full s effect ≡ false → IfOk result (IsPlan self.now.journal s effect (acted b c)) }
     {
         let Way::Switch = way else {
-            return Ok(Plan::Append(need));
+            return Ok(Plan::Append);
         };
         let base = self.base_after(next)?;
         Ok(Plan::Switch(base))
@@ -80,10 +84,9 @@ impl Inside {
         caller: u16,
         call: Call,
         pieces: Pieces,
-        need: u64,
         way: Way,
     ) -> Result<Reply, NoMemory>
-        requires way { (first : State) × (t0 : ℕ) × HasWay first t0 (D.told disk.old) self.old call pieces need way }
+        requires way { (first : State) × (t0 : ℕ) × HasWay first t0 (D.told disk.old) self.old call pieces way }
         requires room { vec_len self.old.history < vec_capacity self.old.history }
         ensures goes { Goes 6 (D.told disk.old) (D.told disk.new) }
         ensures cause { IfOk result (λ reply. IsFault reply → HasRisen (D.told disk.old).faults (D.told disk.new).faults) }
@@ -91,17 +94,19 @@ impl Inside {
         ensures err { OnErr result (self.new.history.items ≡ self.old.history.items) }
         ensures still { OnErr result (disk.new ≡ disk.old) }
         ensures tapes { self.new.tapes ≡ self.old.tapes }
-        ensures stood { (first : State) (t0 : ℕ) → HasWay first t0 (D.told disk.old) self.old call pieces need way → Stood first t0 (D.told disk.new) self.new }
+        ensures stood { (first : State) (t0 : ℕ) → HasWay first t0 (D.told disk.old) self.old call pieces way → Stood first t0 (D.told disk.new) self.new }
     {
         foundations();
         disks_are_honest(disk);
         let _most = self.journal.epoch();
-        let next = ready_edit(self.alloc, &mut self.parts, pieces)?;
-        let Ok(plan) = self.plan(&next, need, way) else {
+        let rope = ready_edit(self.alloc, &mut self.parts, pieces)?;
+        let replies = replies_of(&rope);
+        let next = NextChange::Rope(rope);
+        let Ok(plan) = self.plan(&next, way) else {
             give_back(&mut self.parts, next);
             return Err(NoMemory);
         };
-        Ok(self.commit(disk, caller, call, next, plan))
+        Ok(self.commit(disk, caller, call, replies, next, plan))
     }
 
     // Keeps a rope of these pieces, unless the journal has no room.
@@ -123,15 +128,14 @@ impl Inside {
         ensures stood { (first : State) (t0 : ℕ) → MakesRope first t0 (D.told disk.old) self.old call pieces → Stood first t0 (D.told disk.new) self.new }
     {
         let count = pieces.count();
-        let Some(need) = sum(self.base, rope_size(self.parts.form, count)) else {
-            return Err(NoMemory);
-        };
-        match self.way(16 + 16 * u64::from(count), need) {
+        let base = parts_size(&self.parts);
+        let more = u128::from(rope_size(self.parts.form, count));
+        match self.way(16 + 16 * u64::from(count), base, base + more)? {
             Way::Full(most, left) => {
                 Ok(self.refuse(disk, caller, call, Why::JournalFull(most, left)))
             }
-            Way::Append => self.keep_by(disk, caller, call, pieces, need, Way::Append),
-            Way::Switch => self.keep_by(disk, caller, call, pieces, need, Way::Switch),
+            Way::Append => self.keep_by(disk, caller, call, pieces, Way::Append),
+            Way::Switch => self.keep_by(disk, caller, call, pieces, Way::Switch),
         }
     }
 

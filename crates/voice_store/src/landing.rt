@@ -6,7 +6,7 @@ ghost use Rattle.voice_model.specs.Replay.{Rebuilt, acted};
 ghost use Rattle.voice_model.specs.declared.Change.{Change};
 ghost use Rattle.voice_outside.specs.Counters.{HasRisen};
 ghost use Rattle.recovery.specs.Shown.{Rebuilds};
-ghost use Rattle.next_ropes.specs.Ready.{IsReady};
+ghost use Rattle.next_changes.specs.Next.{IsNext};
 ghost use Rattle.voice_store.specs.Stood.{Stood, in_form};
 ghost use Rattle.voice_store.specs.Trying.{IsReadyIn};
 ghost use Rattle.voice_store.specs.Facts.{AddsLanding, Goes};
@@ -14,23 +14,21 @@ ghost use Rattle.voice_store.specs.Facts.{AddsLanding, Goes};
 use crate::entering::enter;
 use crate::inside::{Doubted, Inside};
 use crash_laws::laws::foundations;
-use next_ropes::perform;
+use next_changes::perform;
 use voice_model::{Call, Reply};
 use voice_outside::Disk;
 
 impl Inside {
-    // Puts the rope in whose change has landed.
+    // Does the change that has landed.
     fn take_in(&mut self, doubted: Doubted)
         requires { IsReadyIn self.old doubted.next }
-        ensures tables { (b : Rebuilt) (c : Change) → IsReady self.old.parts b doubted.next c → b.shape ≡ self.old.journal.shape → Rebuilds (in_form b.form self.new.parts) (acted b c) }
+        ensures tables { (b : Rebuilt) (c : Change) → IsNext self.old.parts b doubted.next c → b.shape ≡ self.old.journal.shape → Rebuilds (in_form b.form self.new.parts) (acted b c) }
         ensures form { self.new.parts.form ≡ doubted.form }
-        ensures base { self.new.base ≡ doubted.base }
-        ensures rest { self.new ≡ record self.old { parts = self.new.parts; base = doubted.base } }
+        ensures rest { self.new ≡ record self.old { parts = self.new.parts } }
     {
         let shape = self.journal.shape();
         perform(&mut self.parts, &shape, doubted.next);
         self.parts.form = doubted.form;
-        self.base = doubted.base;
     }
 
     /// Lands what is in doubt, if anything is. False exactly where a device call failed; then all is as before.

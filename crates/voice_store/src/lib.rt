@@ -1,6 +1,7 @@
 //! The store: one call at a time over a disk, the history of all calls, and what a crash may leave of it.
 #![tactic(auto)]
 
+mod altering;
 mod applying;
 mod committing;
 mod editing;

@@ -1,13 +1,10 @@
 //! Opens what a disk keeps.
 
 ghost use Rattle.std.specs.Prelude.{◌≡◌, ◌+◌, ◌-◌, ◌<◌, ◌^◌, ℕ, [], length, slice_get, Some, IsTrue, IfOk, IfErr, OnOk};
-ghost use Rattle.voice_units.specs.Spots.{Spot};
 ghost use Rattle.voice_outside.specs.Counters.{HasRisen};
 ghost use Rattle.voice_journal.specs.Looks.{Since};
-ghost use Rattle.voice_model.specs.Samples.{Tagged, spot_of};
 ghost use Rattle.voice_model.specs.State.{State};
-ghost use Rattle.voice_model.specs.Changes.{base_size};
-ghost use Rattle.voice_model.specs.Replay.{Rebuilt, nothing_rebuilt, durable_by};
+ghost use Rattle.voice_model.specs.Replay.{Rebuilt, nothing_rebuilt};
 ghost use Rattle.voice_model.specs.Image.{Reading, Replayed, reading, replayed, opened_from};
 ghost use Rattle.recovery.specs.Replayed.{records_of};
 ghost use Rattle.recovery.specs.Shown.{Rebuilds};
@@ -15,7 +12,6 @@ ghost use Rattle.voice_store.specs.Stood.{Stood};
 ghost use Rattle.voice_store.specs.Facts.{Goes, OnlyLooked};
 
 use crate::inside::Inside;
-use checkpoint::compact_parts;
 use crash_laws::laws::foundations;
 use recovery::{Parts, ReplayError, replay};
 use std::alloc::Global;
@@ -23,7 +19,7 @@ use std::sync::Arc;
 use voice_journal::{Journal, OpenError, Opened, Placed};
 use voice_model::Tapes;
 use voice_outside::Disk;
-use voice_units::{NoMemory, Shape};
+use voice_units::Shape;
 
 /// The place of a payload's gate on the disk, 0 where there is no such payload.
 fn place_of(payloads: &[Placed], k: u32) -> u64
@@ -49,15 +45,6 @@ fn rebuild(alloc: Global, shape: &Shape, payloads: &[Placed]) -> Result<Parts, O
     }
 }
 
-/// The bytes that a base of the parts takes, in their form.
-fn base_of(alloc: Global, parts: &Parts) -> Result<u64, NoMemory>
-    requires { (b : Rebuilt) × Rebuilds parts.now b }
-    ensures { (b : Rebuilt) (f : Spot → Tagged) → Rebuilds parts.now b → ((x : Spot) → spot_of (f x) ≡ x) → IfOk result (λ size. size ≡ base_size b.form (durable_by f b.kept)) }
-{
-    let payloads = compact_parts(alloc, parts.form, parts)?;
-    Ok(payloads.size())
-}
-
 impl Inside {
     /// Opens what a disk keeps. It makes at most 5 device calls, and changes nothing.
     pub(crate) fn open<D: Disk>(
@@ -80,16 +67,12 @@ impl Inside {
         } = Journal::open(alloc, disk)?;
         foundations();
         let parts = rebuild(alloc, &shape, &payloads)?;
-        let Ok(base) = base_of(alloc, &parts) else {
-            return Err(OpenError::NoMemory);
-        };
         Ok(Inside {
             alloc,
             tapes,
             journal,
             parts,
             doubt: None,
-            base,
             history: Vec::new(alloc),
         })
     }

@@ -13,17 +13,20 @@ ghost use Rattle.fillings.specs.Laws.{HasBytes};
 ghost use Rattle.recording_writer.specs.Wrote.{WroteAt};
 ghost use Rattle.crash_laws.specs.Standing.{IsLater};
 ghost use Rattle.next_ropes.specs.Ready.{next_change};
+ghost use Rattle.next_ropes.specs.declared.NextRope.{NextRope as RopeValue};
 ghost use Rattle.voice_store.specs.Stood.{Stood, last_of, tapes_of};
 ghost use Rattle.voice_store.specs.Trying.{IsPlan};
 ghost use Rattle.voice_store.specs.Facts.{Goes, IsFault, entry_of};
 ghost use Rattle.voice_store.specs.Keeping.{HasRoom, HoldsRecording, MakesRecording, recorded_by, refused_by};
 
 use crate::committing::Plan;
-use crate::editing::{rope_size, sum};
+use crate::editing::{replies_of, rope_size};
 use crate::inside::Inside;
 use crate::ways::Way;
+use checkpoint::parts_size;
 use crash_laws::laws::{disks_are_honest, foundations};
-use next_ropes::{NextRope, give_back, ready_recording};
+use next_changes::{NextChange, give_back};
+use next_ropes::{NextRope, ready_recording};
 use recording_writer::write_samples;
 use voice_model::{Call, Reply, Why};
 use voice_outside::Disk;
@@ -114,25 +117,31 @@ impl Inside {
         disk: &mut D,
         caller: u16,
         take: Take,
-        next: NextRope,
+        next: NextChange,
         plan: Plan,
         last: &mut [u8],
     ) -> Reply
-        requires holds { (first : State) × (t0 : ℕ) × (h : HoldsRecording first t0 (D.told disk.old) self.old take next) × IsPlan self.old.journal (last_of first self.old) (recorded_by (last_of first self.old) (tapes_of self.old) take) (acted h.makes.stood.b (next_change h.makes.stood.b.form next)) plan }
+        requires holds { (rope : RopeValue) × (next ≡ NextChange.Rope rope) × (first : State) × (t0 : ℕ) × (h : HoldsRecording first t0 (D.told disk.old) self.old take rope) × IsPlan self.old.journal (last_of first self.old) (recorded_by (last_of first self.old) (tapes_of self.old) take) (acted h.makes.stood.b (next_change h.makes.stood.b.form rope)) plan }
         requires block { length last.old ≡ self.old.journal.shape.block }
         requires room { vec_len self.old.history < vec_capacity self.old.history }
         ensures goes { Goes (6 + take.len) (D.told disk.old) (D.told disk.new) }
         ensures cause { IsFault result → HasRisen (D.told disk.old).faults (D.told disk.new).faults }
         ensures items { self.new.history.items ≡ self.old.history.items ++ entry_of caller (Call.Record take) result (D.told disk.new).calls ∷ [] }
         ensures tapes { self.new.tapes ≡ self.old.tapes }
-        ensures stood { (first : State) (t0 : ℕ) (h : HoldsRecording first t0 (D.told disk.old) self.old take next) → IsPlan self.old.journal (last_of first self.old) (recorded_by (last_of first self.old) (tapes_of self.old) take) (acted h.makes.stood.b (next_change h.makes.stood.b.form next)) plan → Stood first t0 (D.told disk.new) self.new }
+        ensures stood { (rope : RopeValue) → next ≡ NextChange.Rope rope → (first : State) (t0 : ℕ) (h : HoldsRecording first t0 (D.told disk.old) self.old take rope) → IsPlan self.old.journal (last_of first self.old) (recorded_by (last_of first self.old) (tapes_of self.old) take) (acted h.makes.stood.b (next_change h.makes.stood.b.form rope)) plan → Stood first t0 (D.told disk.new) self.new }
     {
         foundations();
         let _most = self.journal.epoch();
-        let Ok(()) = self.write_recording(disk, take, &next, last) else {
+        let NextChange::Rope(rope) = next else {
+            unreachable!()
+        };
+        let replies = replies_of(&rope);
+        let written = self.write_recording(disk, take, &rope, last);
+        let next = NextChange::Rope(rope);
+        let Ok(()) = written else {
             return self.failed(disk, caller, Call::Record(take), next);
         };
-        self.commit(disk, caller, Call::Record(take), next, plan)
+        self.commit(disk, caller, Call::Record(take), replies, next, plan)
     }
 
     // Keeps a recording, in this way.
@@ -141,10 +150,9 @@ impl Inside {
         disk: &mut D,
         caller: u16,
         take: Take,
-        need: u64,
         way: Way,
     ) -> Result<Reply, NoMemory>
-        requires way { (first : State) × (t0 : ℕ) × HasRoom first t0 (D.told disk.old) self.old take need way }
+        requires way { (first : State) × (t0 : ℕ) × HasRoom first t0 (D.told disk.old) self.old take way }
         requires room { vec_len self.old.history < vec_capacity self.old.history }
         ensures goes { Goes (6 + take.len) (D.told disk.old) (D.told disk.new) }
         ensures cause { IfOk result (λ reply. IsFault reply → HasRisen (D.told disk.old).faults (D.told disk.new).faults) }
@@ -152,12 +160,13 @@ impl Inside {
         ensures err { OnErr result (self.new.history.items ≡ self.old.history.items) }
         ensures still { OnErr result (disk.new ≡ disk.old) }
         ensures tapes { self.new.tapes ≡ self.old.tapes }
-        ensures stood { (first : State) (t0 : ℕ) → HasRoom first t0 (D.told disk.old) self.old take need way → Stood first t0 (D.told disk.new) self.new }
+        ensures stood { (first : State) (t0 : ℕ) → HasRoom first t0 (D.told disk.old) self.old take way → Stood first t0 (D.told disk.new) self.new }
     {
         let shape = self.journal.shape();
         let mut last = vec![in self.alloc; 0u8; shape.block as usize]?;
-        let next = ready_recording(self.alloc, &mut self.parts, &shape, take.len)?;
-        let Ok(plan) = self.plan(&next, need, way) else {
+        let rope = ready_recording(self.alloc, &mut self.parts, &shape, take.len)?;
+        let next = NextChange::Rope(rope);
+        let Ok(plan) = self.plan(&next, way) else {
             give_back(&mut self.parts, next);
             return Err(NoMemory);
         };
@@ -183,11 +192,10 @@ impl Inside {
     {
         let shape = self.journal.shape();
         let form = self.parts.form;
-        let Some(need) = sum(self.base, growth(form, shape.block, take.len)) else {
-            return Err(NoMemory);
-        };
+        let base = parts_size(&self.parts);
+        let more = u128::from(growth(form, shape.block, take.len));
         let blocks = u64::from(blocks_needed(shape.block, take.len));
-        match self.way(22 + address_width(form) * blocks, need) {
+        match self.way(22 + address_width(form) * blocks, base, base + more)? {
             Way::Full(most, left) => {
                 Ok(self.refuse(
                     disk,
@@ -196,8 +204,8 @@ impl Inside {
                     Why::JournalFull(most, left),
                 ))
             }
-            Way::Append => self.record_by(disk, caller, take, need, Way::Append),
-            Way::Switch => self.record_by(disk, caller, take, need, Way::Switch),
+            Way::Append => self.record_by(disk, caller, take, Way::Append),
+            Way::Switch => self.record_by(disk, caller, take, Way::Switch),
         }
     }
 

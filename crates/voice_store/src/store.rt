@@ -1,6 +1,6 @@
 //! The store.
 
-ghost use Rattle.std.specs.Prelude.{◌≡◌, ◌≤◌, ◌+◌, ◌-◌, ◌⊎◌, ℕ, [], Some, None, IsTrue, IsOk, IfOk, IfErr, OnOk, OnErr};
+ghost use Rattle.std.specs.Prelude.{◌≡◌, ◌≤◌, ◌+◌, ◌-◌, ◌⊎◌, ℕ, [], Some, None, false, IsTrue, IsOk, IfOk, IfErr, OnOk, OnErr};
 ghost use Rattle.std.specs.Arc.{arc_value};
 ghost use Rattle.voice_outside.specs.Counters.{HasRisen};
 ghost use Rattle.voice_outside.specs.Disk.{MakesAtMost, Now};
@@ -9,6 +9,8 @@ ghost use Rattle.voice_journal.specs.Looks.{Since};
 ghost use Rattle.voice_journal.specs.Formatted.{IsFormatted, SameButHeads};
 ghost use Rattle.voice_model.specs.State.{State, formatted};
 ghost use Rattle.voice_model.specs.Room.{free};
+ghost use Rattle.voice_model.specs.Changes.{is_changing};
+ghost use Rattle.voice_model.specs.Valid.{InRange};
 ghost use Rattle.voice_model.specs.Image.{Reading, reading, opened_from};
 ghost use Rattle.voice_store.specs.Shown.{Keeps, HasRoomFor, history_of, tapes_in, block_of, state_of};
 ghost use Rattle.voice_store.specs.Stood.{ShowsState};
@@ -91,14 +93,15 @@ impl<D: Disk> Store<D> {
         requires built { IsTrue (is_built call) }
         requires takes { TakesAreIn (tapes_in self.old) call }
         requires ropes { HasRopes call }
+        requires range { InRange call }
         requires caller_least { 1 ≤ caller }
         requires caller_most { caller ≤ 16 }
         ensures entry { IfOk result (λ reply. Adds caller call reply (D.told self.new.disk).calls (history_of self.old) (history_of self.new)) }
         ensures err { OnErr result (AddsLanding (history_of self.old) (history_of self.new)) }
         // The history stays legal, and what a crash may leave since an entry is that entry's state or a later one.
         ensures state { (first : State) → Keeps D.told first self.old → Keeps D.told first self.new }
-        // A length takes no memory where there is room for its entry and one more.
-        ensures spare { (rope : ℕ) → call ≡ Call.Length rope → HasRoomFor 2 self.old → IsOk result }
+        // A call that only asks takes no memory where there is room for its entry and one more.
+        ensures spare { is_changing call ≡ false → HasRoomFor 2 self.old → IsOk result }
         ensures cause { IfOk result (λ reply. IsFault reply → HasRisen (D.told self.old.disk).faults (D.told self.new.disk).faults) }
         ensures goes { Goes (most_calls (block_of self.old) call) (D.told self.old.disk) (D.told self.new.disk) }
         // A call for which there is no memory makes no device call but those of a landing.

@@ -12,4 +12,7 @@ returns c =
     let two = c.in_ok-arg-2.ensures.shape c.number_option-2.ensures.local ∙ ap₂ with_rule one c.number_option-2.ensures.rule in
     let three = c.in_ok-arg-3.ensures.shape c.number_option-3.ensures.local ∙ ap₂ with_rule two c.number_option-3.ensures.rule in
     let four = c.in_ok-arg-4.ensures.shape c.number_option-4.ensures.local ∙ ap₂ with_rule three c.number_option-4.ensures.rule in
-    IfOk-weaker c.arg-5.result _ _ (λ r h. h.shape c.number_option-5.ensures.local ∙ ap₂ with_rule four c.number_option-5.ensures.rule) c.arg-5.ensures
+    let five = c.in_ok-arg-5.ensures.shape c.bare_option.ensures.local ∙ ap₂ with_rule four c.bare_option.ensures.rule in
+    let six = c.in_ok-arg-6.ensures.shape c.bare_option-2.ensures.local ∙ ap₂ with_rule five c.bare_option-2.ensures.rule in
+    let seven = c.in_ok-arg-7.ensures.shape c.bare_option-3.ensures.local ∙ ap₂ with_rule six c.bare_option-3.ensures.rule in
+    IfOk-weaker c.arg-8.result _ _ (λ r h. h.shape c.number_option-5.ensures.local ∙ ap₂ with_rule seven c.number_option-5.ensures.rule) c.arg-8.ensures

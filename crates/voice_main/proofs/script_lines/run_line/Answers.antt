@@ -31,6 +31,11 @@ apply-requires-clause-ropes g c κs within =
     let asks = c.in_ok-call.ensures.value c.args.variables.now (λ name. refl) in
     (asked_well c.args.tapes.now c.args.line.now.verb c.args.variables.now c.in-Some.call c.requires.verb (sym c.in-Some.is ∙ asks)).ropes c.requires.ropes
 
+pub apply-requires-clause-range : goal.apply-requires-clause-range
+apply-requires-clause-range g c κs within =
+    let asks = c.in_ok-call.ensures.value c.args.variables.now (λ name. refl) in
+    (asked_well c.args.tapes.now c.args.line.now.verb c.args.variables.now c.in-Some.call c.requires.verb (sym c.in-Some.is ∙ asks)).range c.requires.range
+
 pub returns-clause-ran : goal.returns-clause-ran
 returns-clause-ran g c = λ stand same.
     let asks = sym c.in-Some.is ∙ c.in_ok-call.ensures.value stand same in

@@ -7,6 +7,7 @@ use Rattle.crash_laws.specs.Calls.{Does, Undoes, Doubts}
 use Rattle.crash_laws.specs.Standing.{IsLater}
 use Rattle.crash_laws.proofs.Commits.{appends_carry}
 use Rattle.crash_laws.proofs.Changing.{failures_carry}
+use Rattle.next_changes.specs.Next.{payload_of}
 use Rattle.voice_store.specs.declared.inside.Inside.{Inside}
 use Rattle.voice_store.specs.declared.inside.Doubted.{Doubted}
 use Rattle.voice_store.proofs.Appended.{appended_stood, append_waits, failed_stood}
@@ -22,7 +23,7 @@ done-requires-clause-ready g c =
 
 pub returns-in-Ok-clause-stood : goal.returns-in-Ok-clause-stood
 returns-in-Ok-clause-stood g c =
-    λ first t0 b c' effect tr fits need.
+    λ first t0 b c' effect tr fits.
     let s = c.args.self.now in
     let s' = c.done.new.self in
     let old = g.D.Disk.told c.args.disk.now in
@@ -39,22 +40,21 @@ returns-in-Ok-clause-stood g c =
     let rest = c.done.ensures.rest in
     let journal = c.in-Ok.ensures.ok_state in
     let on_journal : s'.journal ≡ c.append.new.self = ap (λ (x : Inside). x.journal) rest in
-    let payload : c.deref.result.now ≡ c.args.next.payload.items = c.deref.ensures.value in
-    appended_stood first t0 old new s s' b c.args.next c' effect c.args.caller c.args.call tr made.later made.size to_old moments c.deref.result.now payload fits c.args.need need
+    let payload : c.payload.result.now ≡ payload_of c.args.next = c.payload.ensures.bytes in
+    appended_stood first t0 old new s s' b c.args.next c' effect c.args.caller c.args.call c.args.replies.0 tr made.later made.size to_old moments c.payload.result.now payload fits
     (ap (λ (x : Inside). x.tapes) rest)
     c.done.ensures.items
     (ap (λ (j : JournalValue). j.shape) (on_journal ∙ journal))
     (ap (λ (j : JournalValue). j.seat) (on_journal ∙ journal))
     (ap (λ (j : JournalValue). j.doubt) (on_journal ∙ journal) ∙ tr.in_journal)
     (ap (λ (x : Inside). x.doubt) rest ∙ tr.sure)
-    (ap (λ (x : Inside). x.base) rest)
-    (c.done.ensures.tables b c' tr.ready (shape_tried first t0 old s b c.args.next c' effect c.args.caller c.args.call tr ∙ sym (ap (λ (j : JournalValue). j.shape) journal)))
+    (c.done.ensures.tables b c' tr.ready (shape_tried first t0 old s b c.args.next c' effect c.args.caller c.args.call c.args.replies.0 tr ∙ sym (ap (λ (j : JournalValue). j.shape) journal)))
     (appends_carry c.foundations.ensures old new)
-    (λ h. (subst (λ (j : JournalValue). Does (λ r. with_payload r c.deref.result.now) s.journal j old new) (sym on_journal) (c.in-Ok.ensures.ok h), c.append.ensures.crash h))
+    (λ h. (subst (λ (j : JournalValue). Does (λ r. with_payload r c.payload.result.now) s.journal j old new) (sym on_journal) (c.in-Ok.ensures.ok h), c.append.ensures.crash h))
 
 pub returns-in-Err-Before-clause-stood : goal.returns-in-Err-Before-clause-stood
 returns-in-Err-Before-clause-stood g c =
-    λ first t0 b c' effect tr fits need.
+    λ first t0 b c' effect tr fits.
     let s = c.args.self.now in
     let s' = c.failed.new.self in
     let old = g.D.Disk.told c.args.disk.now in
@@ -72,21 +72,20 @@ returns-in-Err-Before-clause-stood g c =
     let before : Err c.in-Err-Before.field-0 ≡ Err Fault.Before = ap Err c.in-Err-Before.field-0-is in
     let journal = c.in-Err-Before.ensures.before_state before in
     let on_journal : s'.journal ≡ c.append.new.self = ap (λ (x : Inside). x.journal) rest in
-    failed_stood first t0 old new s s' b c.args.next c' effect c.args.caller c.args.call tr made.later made.size to_old moments
+    failed_stood first t0 old new s s' b c.args.next c' effect c.args.caller c.args.call c.args.replies.0 tr made.later made.size to_old moments
     (ap (λ (x : Inside). x.tapes) rest)
     c.failed.ensures.items
     (ap (λ (j : JournalValue). j.shape) (on_journal ∙ journal))
     (ap (λ (j : JournalValue). j.seat) (on_journal ∙ journal))
     (ap (λ (j : JournalValue). j.doubt) (on_journal ∙ journal) ∙ tr.in_journal)
     (ap (λ (x : Inside). x.doubt) rest ∙ tr.sure)
-    (ap (λ (x : Inside). x.base) rest)
     (c.failed.ensures.tables b c' tr.ready)
     (failures_carry c.foundations.ensures old new)
     (λ h. subst (λ (j : JournalValue). Undoes s.journal j old new) (sym on_journal) (λ r stands. c.in-Err-Before.ensures.before h r stands before))
 
-pub returns-in-Err-Doubt-clause-stood : goal.returns-in-Err-Doubt-clause-stood
-returns-in-Err-Doubt-clause-stood g c =
-    λ first t0 b c' effect tr fits need.
+pub returns-clause-stood : goal.returns-clause-stood
+returns-clause-stood g c =
+    λ first t0 b c' effect tr fits.
     let s = c.args.self.now in
     let s' = c.wait.new.self in
     let old = g.D.Disk.told c.args.disk.now in
@@ -104,17 +103,16 @@ returns-in-Err-Doubt-clause-stood g c =
     let doubt : Err c.in-Err-Doubt.field-0 ≡ Err Fault.Doubt = ap Err c.in-Err-Doubt.field-0-is in
     let journal = c.in-Err-Doubt.ensures.doubt_state doubt in
     let on_journal : s'.journal ≡ c.append.new.self = ap (λ (x : Inside). x.journal) rest in
-    let payload : c.deref.result.now ≡ c.args.next.payload.items = c.deref.ensures.value in
-    let doubted : Doubted = record { next = c.args.next; base = c.args.need; form = s.parts.form } in
-    append_waits first t0 old new s s' b c.args.next c' effect c.args.caller c.args.call tr made.later made.size to_old moments c.deref.result.now payload fits c.args.need need
-    doubted refl refl refl
+    let payload : c.payload.result.now ≡ payload_of c.args.next = c.payload.ensures.bytes in
+    let doubted : Doubted = record { next = c.args.next; form = s.parts.form } in
+    append_waits first t0 old new s s' b c.args.next c' effect c.args.caller c.args.call c.args.replies.0 tr made.later made.size to_old moments c.payload.result.now payload fits
+    doubted refl refl
     (ap (λ (x : Inside). x.tapes) rest)
     c.wait.ensures.items
     (ap (λ (j : JournalValue). j.shape) (on_journal ∙ journal))
     (ap (λ (j : JournalValue). j.seat) (on_journal ∙ journal))
     (ap (λ (j : JournalValue). j.doubt) (on_journal ∙ journal))
     (ap (λ (x : Inside). x.doubt) rest)
-    (ap (λ (x : Inside). x.base) rest)
     (ap (λ (x : Inside). x.parts) rest)
     (appends_carry c.foundations.ensures old new)
-    (λ h. (subst (λ (j : JournalValue). Doubts (λ r. with_payload r c.deref.result.now) s.journal j old new) (sym on_journal) (λ r stands. c.in-Err-Doubt.ensures.doubt h r stands doubt), c.append.ensures.crash h))
+    (λ h. (subst (λ (j : JournalValue). Doubts (λ r. with_payload r c.payload.result.now) s.journal j old new) (sym on_journal) (λ r stands. c.in-Err-Doubt.ensures.doubt h r stands doubt), c.append.ensures.crash h))

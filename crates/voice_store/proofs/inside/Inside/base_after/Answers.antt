@@ -3,9 +3,15 @@ use Rattle.std.specs.Prelude.{IfOk}
 use Rattle.voice_units.specs.declared.shapes.Shape.{Shape}
 use Rattle.voice_model.specs.Replay.{acted}
 use Rattle.checkpoint.proofs.Held.{used_alone}
+use Rattle.next_changes.proofs.Given.{given}
 use Rattle.voice_store.specs.Trying.{IsBaseOf}
 use Rattle.voice_store.proofs.Switched.{acted_shape}
 use Rattle.voice_store.proofs.inside.Inside.base_after.Goals as goal
+
+pub parts_after-requires : goal.parts_after-requires
+parts_after-requires c =
+    let r = c.requires in
+    record { b = r.b; c = r.c; next = r.ready; in_shape = r.in_shape ∙ sym c.shape-shape.ensures }
 
 pub base_of-requires : goal.base_of-requires
 base_of-requires c =
@@ -17,4 +23,4 @@ returns c =
     λ b c' ready shape.
     let here = shape ∙ sym c.shape-shape.ensures in
     subst (λ (x : Shape). IfOk c.base_of.result (IsBaseOf x (acted b c'))) c.shape-shape.ensures
-    (c.base_of.ensures (acted b c') (used_alone c.in_ok-after.after (acted b c') (c.in_ok-after.ensures b c' ready here)) (acted_shape b c' ready.kind ∙ here))
+    (c.base_of.ensures (acted b c') (used_alone c.in_ok-after.after (acted b c') (c.in_ok-after.ensures b c' ready here)) (acted_shape b c' (given c.args.self.now.parts b c.args.next.now c' ready).kind ∙ here))

@@ -10,7 +10,7 @@ returns-in-Append-clause-stood g c =
     λ first t0 b c' effect tr is_plan.
     let s = c.args.self.now in
     let fits = subst (λ (p : Plan). IsPlan s.journal (last_of first s) effect (acted b c') p) c.in-Append.is is_plan in
-    c.append.ensures.stood first t0 b c' effect tr fits.0 fits.1
+    c.append.ensures.stood first t0 b c' effect tr fits
 
 pub returns-in-Switch-clause-stood : goal.returns-in-Switch-clause-stood
 returns-in-Switch-clause-stood g c =

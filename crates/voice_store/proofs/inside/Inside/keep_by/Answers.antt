@@ -1,6 +1,7 @@
 use Rattle.std.proofs.Common.{◌≤◌, ◌^◌, subst}
 use Rattle.voice_model.specs.State.Effect.{Edited}
 use Rattle.voice_model.specs.declared.changes.Change.TheVariants as kinds
+use Rattle.next_changes.specs.declared.NextChange.TheVariants as changes
 use Rattle.voice_store.specs.Stood.{last_of}
 use Rattle.voice_store.proofs.Kept.{same_parts, same_shape, tables, many, long, used, trying}
 use Rattle.voice_store.proofs.Going.{can_go}
@@ -9,29 +10,29 @@ use Rattle.voice_store.proofs.inside.Inside.keep_by.Goals as goal
 pub ready_edit-requires-clause-parts : goal.ready_edit-requires-clause-parts
 ready_edit-requires-clause-parts g c =
     let way = c.requires.way in
-    (way.2.makes.stood.b, tables way.0 way.1 (g.D.Disk.told c.args.disk.now) c.args.self.now c.args.call c.args.pieces c.args.need c.args.way way.2)
+    (way.2.makes.stood.b, tables way.0 way.1 (g.D.Disk.told c.args.disk.now) c.args.self.now c.args.call c.args.pieces c.args.way way.2)
 
 pub ready_edit-requires-clause-many : goal.ready_edit-requires-clause-many
 ready_edit-requires-clause-many g c =
     let way = c.requires.way in
-    many way.0 way.1 (g.D.Disk.told c.args.disk.now) c.args.self.now c.args.call c.args.pieces c.args.need c.args.way way.2
+    many way.0 way.1 (g.D.Disk.told c.args.disk.now) c.args.self.now c.args.call c.args.pieces c.args.way way.2
 
 pub ready_edit-requires-clause-long : goal.ready_edit-requires-clause-long
 ready_edit-requires-clause-long g c =
     let way = c.requires.way in
-    long way.0 way.1 (g.D.Disk.told c.args.disk.now) c.args.self.now c.args.call c.args.pieces c.args.need c.args.way way.2
+    long way.0 way.1 (g.D.Disk.told c.args.disk.now) c.args.self.now c.args.call c.args.pieces c.args.way way.2
 
 pub ready_edit-requires-clause-used : goal.ready_edit-requires-clause-used
 ready_edit-requires-clause-used g c =
     let way = c.requires.way in
-    used way.0 way.1 (g.D.Disk.told c.args.disk.now) c.args.self.now c.args.call c.args.pieces c.args.need c.args.way way.2
+    used way.0 way.1 (g.D.Disk.told c.args.disk.now) c.args.self.now c.args.call c.args.pieces c.args.way way.2
 
-pub returns-in_err-next-clause-stood : goal.returns-in_err-next-clause-stood
-returns-in_err-next-clause-stood g c = λ first t0 way.
+pub returns-in_err-rope-clause-stood : goal.returns-in_err-rope-clause-stood
+returns-in_err-rope-clause-stood g c = λ first t0 way.
     let s = c.args.self.now in
     let disk = g.D.Disk.told c.args.disk.now in
     same_parts first t0 disk s way.makes.stood way.makes.sure c.ready_edit.new.parts
-    (c.ready_edit.ensures.same way.makes.stood.b (tables first t0 disk s c.args.call c.args.pieces c.args.need c.args.way way))
+    (c.ready_edit.ensures.same way.makes.stood.b (tables first t0 disk s c.args.call c.args.pieces c.args.way way))
 
 pub plan-requires : goal.plan-requires
 plan-requires g c =
@@ -42,7 +43,7 @@ plan-requires g c =
     record {
       b = b;
       c = kinds.Edited b.next c.args.pieces;
-      ready = c.in_ok-next.ensures.ready b (tables way.0 way.1 disk s c.args.call c.args.pieces c.args.need c.args.way way.2);
+      ready = c.in_ok-rope.ensures.ready b (tables way.0 way.1 disk s c.args.call c.args.pieces c.args.way way.2);
       in_shape = same_shape way.0 way.1 disk s way.2.makes.stood way.2.makes.sure;
     }
 
@@ -52,7 +53,7 @@ returns-in_default-clause-stood g c = λ first t0 way.
     let disk = g.D.Disk.told c.args.disk.now in
     let b = way.makes.stood.b in
     same_parts first t0 disk s way.makes.stood way.makes.sure c.give_back.new.parts
-    (c.give_back.ensures b (kinds.Edited b.next c.args.pieces) (c.in_ok-next.ensures.ready b (tables first t0 disk s c.args.call c.args.pieces c.args.need c.args.way way)))
+    (c.give_back.ensures b (kinds.Edited b.next c.args.pieces) (c.in_ok-rope.ensures.ready b (tables first t0 disk s c.args.call c.args.pieces c.args.way way)))
 
 pub commit-requires-clause-can : goal.commit-requires-clause-can
 commit-requires-clause-can g c κs within =
@@ -62,12 +63,12 @@ commit-requires-clause-can g c κs within =
     let t0 = c.requires.way.1 in
     let way = c.requires.way.2 in
     let b = way.makes.stood.b in
-    let ready = c.in_ok-next.ensures.ready b (tables first t0 disk s c.args.call c.args.pieces c.args.need c.args.way way) in
+    let ready = c.in_ok-rope.ensures.ready b (tables first t0 disk s c.args.call c.args.pieces c.args.way way) in
     let made = Edited (last_of first s).next way.makes.rope.samples in
-    can_go first t0 disk (record s { parts = c.ready_edit.new.parts }) b c.in_ok-next.next (kinds.Edited b.next c.args.pieces) made c.args.caller c.args.call
-    (trying first t0 disk s c.args.call c.args.pieces c.args.need c.args.way way c.foundations.ensures c.disks_are_honest.ensures c.args.caller c.ready_edit.new.parts c.in_ok-next.next ready)
+    can_go first t0 disk (record s { parts = c.ready_edit.new.parts }) b (changes.Rope c.in_ok-rope.rope) (kinds.Edited b.next c.args.pieces) made c.args.caller c.args.call c.replies_of-replies.result.0
+    (trying first t0 disk s c.args.call c.args.pieces c.args.way way c.foundations.ensures c.disks_are_honest.ensures c.args.caller c.ready_edit.new.parts c.in_ok-rope.rope ready c.replies_of-replies.result.0 c.replies_of-replies.ensures.first)
     (subst (λ n. n ≤ 2 ^ 48) c.epoch-most.ensures.value c.epoch-most.ensures.most)
-    c.in-Ok.plan (c.in-Ok.ensures b (kinds.Edited b.next c.args.pieces) (last_of first s) made ready (same_shape first t0 disk s way.makes.stood way.makes.sure) way.goes way.free way.needs)
+    c.in-Ok.plan (c.in-Ok.ensures b (kinds.Edited b.next c.args.pieces) (last_of first s) made ready (same_shape first t0 disk s way.makes.stood way.makes.sure) way.goes way.free)
 
 pub commit-requires-clause-ready : goal.commit-requires-clause-ready
 commit-requires-clause-ready g c κs within =
@@ -78,7 +79,7 @@ commit-requires-clause-ready g c κs within =
     record {
       b = b;
       c = kinds.Edited b.next c.args.pieces;
-      ready = c.in_ok-next.ensures.ready b (tables way.0 way.1 disk s c.args.call c.args.pieces c.args.need c.args.way way.2);
+      ready = c.in_ok-rope.ensures.ready b (tables way.0 way.1 disk s c.args.call c.args.pieces c.args.way way.2);
       in_shape = same_shape way.0 way.1 disk s way.2.makes.stood way.2.makes.sure;
     }
 
@@ -87,8 +88,8 @@ returns-clause-stood g c = λ first t0 way.
     let s = c.args.self.now in
     let disk = g.D.Disk.told c.args.disk.now in
     let b = way.makes.stood.b in
-    let ready = c.in_ok-next.ensures.ready b (tables first t0 disk s c.args.call c.args.pieces c.args.need c.args.way way) in
+    let ready = c.in_ok-rope.ensures.ready b (tables first t0 disk s c.args.call c.args.pieces c.args.way way) in
     let made = Edited (last_of first s).next way.makes.rope.samples in
     c.commit.ensures.stood first t0 b (kinds.Edited b.next c.args.pieces) made
-    (trying first t0 disk s c.args.call c.args.pieces c.args.need c.args.way way c.foundations.ensures c.disks_are_honest.ensures c.args.caller c.ready_edit.new.parts c.in_ok-next.next ready)
-    (c.in-Ok.ensures b (kinds.Edited b.next c.args.pieces) (last_of first s) made ready (same_shape first t0 disk s way.makes.stood way.makes.sure) way.goes way.free way.needs)
+    (trying first t0 disk s c.args.call c.args.pieces c.args.way way c.foundations.ensures c.disks_are_honest.ensures c.args.caller c.ready_edit.new.parts c.in_ok-rope.rope ready c.replies_of-replies.result.0 c.replies_of-replies.ensures.first)
+    (c.in-Ok.ensures b (kinds.Edited b.next c.args.pieces) (last_of first s) made ready (same_shape first t0 disk s way.makes.stood way.makes.sure) way.goes way.free)

@@ -2,7 +2,7 @@ use Rattle.std.proofs.Common.{rules, ◌≡◌, ◌+◌, [], Bool, List, IsTrue,
 use Rattle.std.specs.Prelude.{slice_get}
 use Rattle.voice_journal.specs.declared.lists.Placed.{Placed}
 use Rattle.voice_journal.specs.declared.opening.Opened.{Opened}
-use Rattle.voice_model.specs.Replay.{nothing_rebuilt, filled}
+use Rattle.voice_model.specs.Replay.{nothing_rebuilt}
 use Rattle.voice_model.specs.Image.{Replayed, replayed}
 use Rattle.recovery.specs.Replayed.{records_of}
 use Rattle.journal_readings.proofs.Openings.{journal_place}
@@ -66,11 +66,10 @@ returns-clause-state g c =
     let size : extent opening.journal.shape ≤ new.size = subst (λ (x : Shape). extent x ≤ new.size) (sym same) facts.fits in
     let honest_now : IsTrue old.honest → IsHonest new = λ h. record { since = laws.since c.open.new.disk; present = laws.present c.open.new.disk (to_new h) } in
     let law = opening_holds c.foundations.ensures new in
-    let s : Inside = record { alloc = c.args.alloc; tapes = c.args.tapes; journal = opening.journal; parts = c.in_ok-parts.parts; doubt = None; base = c.in-Ok.base; history = c.new.result } in
+    let s : Inside = record { alloc = c.args.alloc; tapes = c.args.tapes; journal = opening.journal; parts = c.in_ok-parts.parts; doubt = None; history = c.new.result } in
     let t0 = old.calls + 1 in (
       first_of old.bytes opening.journal b,
-      stood_first t0 old.bytes new s b opening.payloads.items items here tables refl facts.sure from within
-          (c.in-Ok.ensures b (filled old.bytes b) tables (λ x. refl)) facts.moment size
+      stood_first t0 old.bytes new s b opening.payloads.items items here tables refl facts.sure from within facts.moment size
           (λ h. let honest = to_old h in let reads = facts.reads honest in
           first_held (tapes_of s) t0 old.bytes new opening b same rebuilds (honest_now honest) facts.moment (facts.since honest) reads.0 reads.1 law),
       λ honest.

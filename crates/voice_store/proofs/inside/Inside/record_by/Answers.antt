@@ -1,4 +1,4 @@
-use Rattle.std.proofs.Common.{◌≤◌, ◌∙◌, sym, ap, subst}
+use Rattle.std.proofs.Common.{◌≤◌, ◌∙◌, refl, sym, ap, subst}
 use Rattle.voice_units.specs.declared.shapes.Shape.{Shape}
 use Rattle.voice_units.specs.Blocks.{blocks_for}
 use Rattle.voice_blocks.specs.Holders.{open_in}
@@ -32,12 +32,12 @@ ready_recording-requires-clause-free g c =
     subst (λ (x : Shape). blocks_for x.block c.args.take.len ≤ open_in s.parts.blocks.holders) (sym c.shape-shape.ensures)
     (enough way.0 way.1 (g.D.Disk.told c.args.disk.now) s c.args.take way.2.makes)
 
-pub returns-in_err-next-clause-stood : goal.returns-in_err-next-clause-stood
-returns-in_err-next-clause-stood g c = λ first t0 way.
+pub returns-in_err-rope-clause-stood : goal.returns-in_err-rope-clause-stood
+returns-in_err-rope-clause-stood g c = λ first t0 way.
     let s = c.args.self.now in
     let disk = g.D.Disk.told c.args.disk.now in
     same_parts first t0 disk s way.makes.stood way.makes.sure c.ready_recording.new.parts
-    (c.in_err-next.ensures.err way.makes.stood.b (is_sure first t0 disk s way.makes.stood way.makes.sure).tables)
+    (c.in_err-rope.ensures.err way.makes.stood.b (is_sure first t0 disk s way.makes.stood way.makes.sure).tables)
 
 pub plan-requires : goal.plan-requires
 plan-requires g c =
@@ -48,8 +48,8 @@ plan-requires g c =
     let shape = same_shape way.0 way.1 disk s way.2.makes.stood way.2.makes.sure in
     record {
       b = b;
-      c = change_in b c.in_ok-next.next;
-      ready = (c.in_ok-next.ensures.ready b (is_sure way.0 way.1 disk s way.2.makes.stood way.2.makes.sure).tables (shape ∙ sym c.shape-shape.ensures)).0;
+      c = change_in b c.in_ok-rope.rope;
+      ready = (c.in_ok-rope.ensures.ready b (is_sure way.0 way.1 disk s way.2.makes.stood way.2.makes.sure).tables (shape ∙ sym c.shape-shape.ensures)).0;
       in_shape = shape;
     }
 
@@ -61,7 +61,7 @@ returns-in_default-clause-stood g c = λ first t0 way.
     let tables = (is_sure first t0 disk s way.makes.stood way.makes.sure).tables in
     let shape = same_shape first t0 disk s way.makes.stood way.makes.sure in
     same_parts first t0 disk s way.makes.stood way.makes.sure c.give_back.new.parts
-    (c.give_back.ensures b (change_in b c.in_ok-next.next) (c.in_ok-next.ensures.ready b tables (shape ∙ sym c.shape-shape.ensures)).0)
+    (c.give_back.ensures b (change_in b c.in_ok-rope.rope) (c.in_ok-rope.ensures.ready b tables (shape ∙ sym c.shape-shape.ensures)).0)
 
 pub write_and_commit-requires-clause-holds : goal.write_and_commit-requires-clause-holds
 write_and_commit-requires-clause-holds g c κs within =
@@ -72,13 +72,15 @@ write_and_commit-requires-clause-holds g c κs within =
     let disk = g.D.Disk.told c.args.disk.now in
     let b = way.makes.stood.b in
     let shape = same_shape first t0 disk s way.makes.stood way.makes.sure in
-    let ready = c.in_ok-next.ensures.ready b (is_sure first t0 disk s way.makes.stood way.makes.sure).tables (shape ∙ sym c.shape-shape.ensures) in
-    let next = c.in_ok-next.next in (
+    let ready = c.in_ok-rope.ensures.ready b (is_sure first t0 disk s way.makes.stood way.makes.sure).tables (shape ∙ sym c.shape-shape.ensures) in
+    let next = c.in_ok-rope.rope in (
+      next,
+      refl,
       first,
       t0,
-      holding first t0 disk s c.args.take c.args.need c.args.way way c.ready_recording.new.parts next ready.0 c.in_ok-next.ensures.recorded
+      holding first t0 disk s c.args.take c.args.way way c.ready_recording.new.parts next ready.0 c.in_ok-rope.ensures.recorded
           (ready.1 ∙ ap (λ (x : Shape). blocks_for x.block c.args.take.len) c.shape-shape.ensures) ready.2 ready.3 ready.4,
-      c.in-Ok.ensures b (change_in b next) (last_of first s) (recorded_by (last_of first s) (tapes_of s) c.args.take) ready.0 shape way.goes way.free way.needs,
+      c.in-Ok.ensures b (change_in b next) (last_of first s) (recorded_by (last_of first s) (tapes_of s) c.args.take) ready.0 shape way.goes way.free,
     )
 
 pub returns-clause-stood : goal.returns-clause-stood
@@ -87,9 +89,9 @@ returns-clause-stood g c = λ first t0 way.
     let disk = g.D.Disk.told c.args.disk.now in
     let b = way.makes.stood.b in
     let shape = same_shape first t0 disk s way.makes.stood way.makes.sure in
-    let ready = c.in_ok-next.ensures.ready b (is_sure first t0 disk s way.makes.stood way.makes.sure).tables (shape ∙ sym c.shape-shape.ensures) in
-    let next = c.in_ok-next.next in
-    c.write_and_commit.ensures.stood first t0
-    (holding first t0 disk s c.args.take c.args.need c.args.way way c.ready_recording.new.parts next ready.0 c.in_ok-next.ensures.recorded
+    let ready = c.in_ok-rope.ensures.ready b (is_sure first t0 disk s way.makes.stood way.makes.sure).tables (shape ∙ sym c.shape-shape.ensures) in
+    let next = c.in_ok-rope.rope in
+    c.write_and_commit.ensures.stood next refl first t0
+    (holding first t0 disk s c.args.take c.args.way way c.ready_recording.new.parts next ready.0 c.in_ok-rope.ensures.recorded
     (ready.1 ∙ ap (λ (x : Shape). blocks_for x.block c.args.take.len) c.shape-shape.ensures) ready.2 ready.3 ready.4)
-    (c.in-Ok.ensures b (change_in b next) (last_of first s) (recorded_by (last_of first s) (tapes_of s) c.args.take) ready.0 shape way.goes way.free way.needs)
+    (c.in-Ok.ensures b (change_in b next) (last_of first s) (recorded_by (last_of first s) (tapes_of s) c.args.take) ready.0 shape way.goes way.free)

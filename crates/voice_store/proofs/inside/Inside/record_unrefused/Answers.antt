@@ -1,13 +1,15 @@
-use Rattle.std.proofs.Common.{◌+◌, ◌*◌, ◌==◌, cond, ◌∙◌, ap}
+use Rattle.std.proofs.Common.{◌+◌, ◌*◌, ◌==◌, cond, ◌∙◌, ap, subst}
 use Rattle.voice_units.specs.declared.shapes.Shape.{Shape}
 use Rattle.voice_units.specs.Blocks.{blocks_for}
 use Rattle.voice_model.specs.Changes.{address_size}
 use Rattle.voice_model.specs.declared.calls.Call.TheVariants as calls
 use Rattle.voice_store.specs.Stood.{last_of, tapes_of}
 use Rattle.voice_store.specs.Keeping.{recorded_by}
+use Rattle.voice_store.specs.declared.ways.Way.{Way}
 use Rattle.voice_store.specs.declared.ways.Way.TheVariants as ways
+use Rattle.voice_store.specs.Ways.{IsWay}
 use Rattle.voice_store.proofs.Making.{nothing_lands}
-use Rattle.voice_store.proofs.Kept.{is_sure}
+use Rattle.voice_store.proofs.Kept.{is_sure, base_now}
 use Rattle.voice_store.proofs.Recordable.{frame_is, need_is, recording_full, has_room}
 use Rattle.voice_store.proofs.inside.Inside.record_unrefused.Goals as goal
 
@@ -19,10 +21,10 @@ returns-in-Full-clause-stood g c = λ first t0 makes.
     let len = c.args.take.len in
     let frame = ap (λ n. 22 + c.address_width.result * n) (c.from-blocks.ensures ∙ c.blocks_needed.ensures ∙ ap (λ (x : Shape). blocks_for x.block len) c.shape-shape.ensures)
     ∙ ap (λ w. 22 + w * blocks_for s.journal.shape.block len) c.address_width.ensures ∙ frame_is first t0 disk s c.args.take makes in
-    let need = c.in-Some.ensures
-    ∙ need_is first t0 disk s c.args.take makes c.growth.result
-    (c.growth.ensures ∙ ap (λ (x : Shape). 24 + cond (s.parts.form == 2) 1 0 + cond (len == 0) 0 (34 + (4 + address_size s.parts.form) * blocks_for x.block len)) c.shape-shape.ensures) in
-    let full = c.in-Full.ensures last (recorded_by last (tapes_of s) c.args.take) makes.stood.upright.seated frame need in
+    let base = base_now first t0 disk s makes.stood makes.sure c.parts_size-base.result c.parts_size-base.ensures.size in
+    let need = need_is first t0 disk s c.args.take makes c.parts_size-base.result c.from-more.result base
+    (c.from-more.ensures ∙ c.growth.ensures ∙ ap (λ (x : Shape). 24 + cond (s.parts.form == 2) 1 0 + cond (len == 0) 0 (34 + (4 + address_size s.parts.form) * blocks_for x.block len)) c.shape-shape.ensures) in
+    let full = subst (λ (w : Way). IsWay last (recorded_by last (tapes_of s) c.args.take) w) c.in-Full.is (c.in_ok-most.ensures last (recorded_by last (tapes_of s) c.args.take) makes.stood.upright.seated base frame need) in
     c.refuse.ensures.stood first t0 makes.stood (nothing_lands last (calls.Record c.args.take) (is_sure first t0 disk s makes.stood makes.sure).in_state)
     (recording_full first t0 disk s c.args.take makes c.in-Full.most c.in-Full.left full)
 
@@ -37,11 +39,11 @@ record_by-requires-clause-way g c κs within =
     let len = c.args.take.len in
     let frame = ap (λ n. 22 + c.address_width.result * n) (c.from-blocks.ensures ∙ c.blocks_needed.ensures ∙ ap (λ (x : Shape). blocks_for x.block len) c.shape-shape.ensures)
     ∙ ap (λ w. 22 + w * blocks_for s.journal.shape.block len) c.address_width.ensures ∙ frame_is first t0 disk s c.args.take makes in
-    let need = c.in-Some.ensures
-    ∙ need_is first t0 disk s c.args.take makes c.growth.result
-    (c.growth.ensures ∙ ap (λ (x : Shape). 24 + cond (s.parts.form == 2) 1 0 + cond (len == 0) 0 (34 + (4 + address_size s.parts.form) * blocks_for x.block len)) c.shape-shape.ensures) in
-    let fits = c.in-Append.ensures last (recorded_by last (tapes_of s) c.args.take) makes.stood.upright.seated frame need in
-    (first, t0, has_room first t0 disk s c.args.take makes c.in-Some.need ways.Append need fits fits.free)
+    let base = base_now first t0 disk s makes.stood makes.sure c.parts_size-base.result c.parts_size-base.ensures.size in
+    let need = need_is first t0 disk s c.args.take makes c.parts_size-base.result c.from-more.result base
+    (c.from-more.ensures ∙ c.growth.ensures ∙ ap (λ (x : Shape). 24 + cond (s.parts.form == 2) 1 0 + cond (len == 0) 0 (34 + (4 + address_size s.parts.form) * blocks_for x.block len)) c.shape-shape.ensures) in
+    let fits = subst (λ (w : Way). IsWay last (recorded_by last (tapes_of s) c.args.take) w) c.in-Append.is (c.in_ok-most.ensures last (recorded_by last (tapes_of s) c.args.take) makes.stood.upright.seated base frame need) in
+    (first, t0, has_room first t0 disk s c.args.take makes ways.Append fits fits.free)
 
 pub returns-in-Append-clause-stood : goal.returns-in-Append-clause-stood
 returns-in-Append-clause-stood g c = λ first t0 makes.
@@ -51,11 +53,11 @@ returns-in-Append-clause-stood g c = λ first t0 makes.
     let len = c.args.take.len in
     let frame = ap (λ n. 22 + c.address_width.result * n) (c.from-blocks.ensures ∙ c.blocks_needed.ensures ∙ ap (λ (x : Shape). blocks_for x.block len) c.shape-shape.ensures)
     ∙ ap (λ w. 22 + w * blocks_for s.journal.shape.block len) c.address_width.ensures ∙ frame_is first t0 disk s c.args.take makes in
-    let need = c.in-Some.ensures
-    ∙ need_is first t0 disk s c.args.take makes c.growth.result
-    (c.growth.ensures ∙ ap (λ (x : Shape). 24 + cond (s.parts.form == 2) 1 0 + cond (len == 0) 0 (34 + (4 + address_size s.parts.form) * blocks_for x.block len)) c.shape-shape.ensures) in
-    let fits = c.in-Append.ensures last (recorded_by last (tapes_of s) c.args.take) makes.stood.upright.seated frame need in
-    c.record_by.ensures.stood first t0 (has_room first t0 disk s c.args.take makes c.in-Some.need ways.Append need fits fits.free)
+    let base = base_now first t0 disk s makes.stood makes.sure c.parts_size-base.result c.parts_size-base.ensures.size in
+    let need = need_is first t0 disk s c.args.take makes c.parts_size-base.result c.from-more.result base
+    (c.from-more.ensures ∙ c.growth.ensures ∙ ap (λ (x : Shape). 24 + cond (s.parts.form == 2) 1 0 + cond (len == 0) 0 (34 + (4 + address_size s.parts.form) * blocks_for x.block len)) c.shape-shape.ensures) in
+    let fits = subst (λ (w : Way). IsWay last (recorded_by last (tapes_of s) c.args.take) w) c.in-Append.is (c.in_ok-most.ensures last (recorded_by last (tapes_of s) c.args.take) makes.stood.upright.seated base frame need) in
+    c.record_by.ensures.stood first t0 (has_room first t0 disk s c.args.take makes ways.Append fits fits.free)
 
 pub record_by-requires-in-Switch-clause-way : goal.record_by-requires-in-Switch-clause-way
 record_by-requires-in-Switch-clause-way g c κs within =
@@ -68,11 +70,11 @@ record_by-requires-in-Switch-clause-way g c κs within =
     let len = c.args.take.len in
     let frame = ap (λ n. 22 + c.address_width.result * n) (c.from-blocks.ensures ∙ c.blocks_needed.ensures ∙ ap (λ (x : Shape). blocks_for x.block len) c.shape-shape.ensures)
     ∙ ap (λ w. 22 + w * blocks_for s.journal.shape.block len) c.address_width.ensures ∙ frame_is first t0 disk s c.args.take makes in
-    let need = c.in-Some.ensures
-    ∙ need_is first t0 disk s c.args.take makes c.growth.result
-    (c.growth.ensures ∙ ap (λ (x : Shape). 24 + cond (s.parts.form == 2) 1 0 + cond (len == 0) 0 (34 + (4 + address_size s.parts.form) * blocks_for x.block len)) c.shape-shape.ensures) in
-    let fits = c.in-Switch.ensures last (recorded_by last (tapes_of s) c.args.take) makes.stood.upright.seated frame need in
-    (first, t0, has_room first t0 disk s c.args.take makes c.in-Some.need ways.Switch need fits fits.free)
+    let base = base_now first t0 disk s makes.stood makes.sure c.parts_size-base.result c.parts_size-base.ensures.size in
+    let need = need_is first t0 disk s c.args.take makes c.parts_size-base.result c.from-more.result base
+    (c.from-more.ensures ∙ c.growth.ensures ∙ ap (λ (x : Shape). 24 + cond (s.parts.form == 2) 1 0 + cond (len == 0) 0 (34 + (4 + address_size s.parts.form) * blocks_for x.block len)) c.shape-shape.ensures) in
+    let fits = subst (λ (w : Way). IsWay last (recorded_by last (tapes_of s) c.args.take) w) c.in-Switch.is (c.in_ok-most.ensures last (recorded_by last (tapes_of s) c.args.take) makes.stood.upright.seated base frame need) in
+    (first, t0, has_room first t0 disk s c.args.take makes ways.Switch fits fits.free)
 
 pub returns-in-Switch-clause-stood : goal.returns-in-Switch-clause-stood
 returns-in-Switch-clause-stood g c = λ first t0 makes.
@@ -82,8 +84,8 @@ returns-in-Switch-clause-stood g c = λ first t0 makes.
     let len = c.args.take.len in
     let frame = ap (λ n. 22 + c.address_width.result * n) (c.from-blocks.ensures ∙ c.blocks_needed.ensures ∙ ap (λ (x : Shape). blocks_for x.block len) c.shape-shape.ensures)
     ∙ ap (λ w. 22 + w * blocks_for s.journal.shape.block len) c.address_width.ensures ∙ frame_is first t0 disk s c.args.take makes in
-    let need = c.in-Some.ensures
-    ∙ need_is first t0 disk s c.args.take makes c.growth.result
-    (c.growth.ensures ∙ ap (λ (x : Shape). 24 + cond (s.parts.form == 2) 1 0 + cond (len == 0) 0 (34 + (4 + address_size s.parts.form) * blocks_for x.block len)) c.shape-shape.ensures) in
-    let fits = c.in-Switch.ensures last (recorded_by last (tapes_of s) c.args.take) makes.stood.upright.seated frame need in
-    c.record_by-in-Switch.ensures.stood first t0 (has_room first t0 disk s c.args.take makes c.in-Some.need ways.Switch need fits fits.free)
+    let base = base_now first t0 disk s makes.stood makes.sure c.parts_size-base.result c.parts_size-base.ensures.size in
+    let need = need_is first t0 disk s c.args.take makes c.parts_size-base.result c.from-more.result base
+    (c.from-more.ensures ∙ c.growth.ensures ∙ ap (λ (x : Shape). 24 + cond (s.parts.form == 2) 1 0 + cond (len == 0) 0 (34 + (4 + address_size s.parts.form) * blocks_for x.block len)) c.shape-shape.ensures) in
+    let fits = subst (λ (w : Way). IsWay last (recorded_by last (tapes_of s) c.args.take) w) c.in-Switch.is (c.in_ok-most.ensures last (recorded_by last (tapes_of s) c.args.take) makes.stood.upright.seated base frame need) in
+    c.record_by-in-Switch.ensures.stood first t0 (has_room first t0 disk s c.args.take makes ways.Switch fits fits.free)

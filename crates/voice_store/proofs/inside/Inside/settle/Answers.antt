@@ -3,7 +3,7 @@ use Rattle.std.specs.Prelude.{is_none}
 use Rattle.crash_laws.specs.Standing.{IsLater}
 use Rattle.crash_laws.specs.Calls.{Lands}
 use Rattle.crash_laws.proofs.Landing.{landings_carry}
-use Rattle.next_ropes.specs.Ready.{IsReady}
+use Rattle.next_changes.specs.Next.{IsNext}
 use Rattle.voice_journal.specs.Places.{JournalValue}
 use Rattle.voice_model.specs.declared.calls.Entry.{Entry}
 use Rattle.voice_store.specs.declared.inside.Doubted.{Doubted}
@@ -72,7 +72,7 @@ returns-clause-stood g c =
     let journal : c.land.new.self ≡ landed_journal s.journal unsure.doubt = on_ok c.land.result _ done c.land.ensures.ok_state unsure.doubt unsure.in_journal in
     let rest = c.take_in.ensures.rest in
     let s' : Inside = record c.take_in.new.self { history = c.enter.new.history } in
-    let ready = subst (λ (d : Doubted). IsReady s.parts stood.b d.next unsure.change) same unsure.ready in
+    let ready = subst (λ (d : Doubted). IsNext s.parts stood.b d.next unsure.change) same unsure.ready in
     let tables = c.take_in.ensures.tables stood.b unsure.change ready (shape_of first t0 old s stood ∙ sym (ap (λ (j : JournalValue). j.shape) journal)) in
     let on_same : c.take_in.new.self.history.items ≡ s.history.items = ap (λ (x : Inside). x.history.items) rest in
     let now : c.calls.result ≡ new.calls = c.calls.ensures in
@@ -80,7 +80,7 @@ returns-clause-stood g c =
     c.enter.ensures.items ∙ ap (λ (l : List Entry). l ++ landing_at c.calls.result ∷ []) on_same ∙ ap (λ (n : ℕ). s.history.items ++ landing_at n ∷ []) now in
     stood_landed first t0 old new s s' stood unsure made.later made.size to_old moments (landings_carry c.foundations.ensures old new)
     (ap (λ (x : Inside). x.tapes) rest) items (ap (λ (x : Inside). x.journal) rest ∙ journal) (ap (λ (x : Inside). x.doubt) rest ∙ taken)
-    (ap (λ (x : Inside). x.base) rest ∙ ap (λ (d : Doubted). d.base) (sym same)) (c.take_in.ensures.form ∙ ap (λ (d : Doubted). d.form) (sym same)) tables
+    (c.take_in.ensures.form ∙ ap (λ (d : Doubted). d.form) (sym same)) tables
     (λ h. (
       subst (λ (j : JournalValue). Lands s.journal j old new) (sym (ap (λ (x : Inside). x.journal) rest))
           (λ r p stands. on_ok c.land.result _ done (c.land.ensures.ok h r p stands)),

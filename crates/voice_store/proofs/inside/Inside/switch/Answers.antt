@@ -15,8 +15,8 @@ use Rattle.voice_store.proofs.Tried.{shape_tried}
 use Rattle.voice_store.proofs.Settled.{ready_again}
 use Rattle.voice_store.proofs.inside.Inside.switch.Goals as goal
 
-pub done-reply-requires-clause-ready : goal.done-reply-requires-clause-ready
-done-reply-requires-clause-ready g c =
+pub done-requires-clause-ready : goal.done-requires-clause-ready
+done-requires-clause-ready g c =
     λ _ _.
     let s = c.args.self.now in
     ready_again s (record s { journal = c.switch.new.self }) c.args.next refl (ap (λ (j : JournalValue). j.shape) c.in-Ok.ensures.ok_state) c.requires.ready
@@ -32,7 +32,7 @@ pub returns-in-Ok-clause-stood : goal.returns-in-Ok-clause-stood
 returns-in-Ok-clause-stood g c =
     λ first t0 b c' effect tr fits is_base.
     let s = c.args.self.now in
-    let done = c.done-reply.new.self in
+    let done = c.done.new.self in
     let s' : Inside = record done { parts = record done.parts { form = c.args.base.now.form } } in
     let old = g.D.Disk.told c.args.disk.now in
     let new = g.D.Disk.told c.switch.new.disk in
@@ -45,19 +45,18 @@ returns-in-Ok-clause-stood g c =
       was = record { since = laws.since c.args.disk.now; present = laws.present c.args.disk.now h };
       is = record { since = laws.since c.switch.new.disk; present = laws.present c.switch.new.disk (to_new h) };
     } in
-    let rest = c.done-reply.ensures.rest in
+    let rest = c.done.ensures.rest in
     let journal = c.in-Ok.ensures.ok_state in
     let on_journal : s'.journal ≡ c.switch.new.self = ap (λ (x : Inside). x.journal) rest in
-    switched_stood first t0 old new s s' b c.args.next c' effect c.args.caller c.args.call tr made.later made.size to_old moments c.args.base.now is_base fits c.requires.fits
+    switched_stood first t0 old new s s' b c.args.next c' effect c.args.caller c.args.call c.args.replies.0 tr made.later made.size to_old moments c.args.base.now is_base fits c.requires.fits
     (ap (λ (x : Inside). x.tapes) rest)
-    c.done-reply.ensures.items
+    c.done.ensures.items
     (ap (λ (j : JournalValue). j.shape) (on_journal ∙ journal))
     (ap (λ (j : JournalValue). j.seat) (on_journal ∙ journal))
     (ap (λ (j : JournalValue). j.doubt) (on_journal ∙ journal) ∙ tr.in_journal)
     (ap (λ (x : Inside). x.doubt) rest ∙ tr.sure)
-    (ap (λ (x : Inside). x.base) rest ∙ c.size-size.ensures)
     done.parts
-    (c.done-reply.ensures.tables b c' tr.ready (shape_tried first t0 old s b c.args.next c' effect c.args.caller c.args.call tr ∙ sym (ap (λ (j : JournalValue). j.shape) journal)))
+    (c.done.ensures.tables b c' tr.ready (shape_tried first t0 old s b c.args.next c' effect c.args.caller c.args.call c.args.replies.0 tr ∙ sym (ap (λ (j : JournalValue). j.shape) journal)))
     refl
     (switches_carry c.foundations.ensures old new)
     (λ h. (subst (λ (j : JournalValue). Does (λ r. switched r c.args.base.now.payloads) s.journal j old new) (sym on_journal) (c.in-Ok.ensures.ok h), c.switch.ensures.crash h))
@@ -82,20 +81,19 @@ returns-in-Err-Before-clause-stood g c =
     let before : Err c.in-Err-Before.field-0 ≡ Err Fault.Before = ap Err c.in-Err-Before.field-0-is in
     let journal = c.in-Err-Before.ensures.before_state before in
     let on_journal : s'.journal ≡ c.switch.new.self = ap (λ (x : Inside). x.journal) rest in
-    failed_stood first t0 old new s s' b c.args.next c' effect c.args.caller c.args.call tr made.later made.size to_old moments
+    failed_stood first t0 old new s s' b c.args.next c' effect c.args.caller c.args.call c.args.replies.0 tr made.later made.size to_old moments
     (ap (λ (x : Inside). x.tapes) rest)
     c.failed.ensures.items
     (ap (λ (j : JournalValue). j.shape) (on_journal ∙ journal))
     (ap (λ (j : JournalValue). j.seat) (on_journal ∙ journal))
     (ap (λ (j : JournalValue). j.doubt) (on_journal ∙ journal) ∙ tr.in_journal)
     (ap (λ (x : Inside). x.doubt) rest ∙ tr.sure)
-    (ap (λ (x : Inside). x.base) rest)
     (c.failed.ensures.tables b c' tr.ready)
     (failures_carry c.foundations.ensures old new)
     (λ h. subst (λ (j : JournalValue). Undoes s.journal j old new) (sym on_journal) (λ r stands. c.in-Err-Before.ensures.before h r stands before))
 
-pub returns-in-Err-Doubt-clause-stood : goal.returns-in-Err-Doubt-clause-stood
-returns-in-Err-Doubt-clause-stood g c =
+pub returns-clause-stood : goal.returns-clause-stood
+returns-clause-stood g c =
     λ first t0 b c' effect tr fits is_base.
     let s = c.args.self.now in
     let s' = c.wait.new.self in
@@ -114,16 +112,15 @@ returns-in-Err-Doubt-clause-stood g c =
     let doubt : Err c.in-Err-Doubt.field-0 ≡ Err Fault.Doubt = ap Err c.in-Err-Doubt.field-0-is in
     let journal = c.in-Err-Doubt.ensures.doubt_state doubt in
     let on_journal : s'.journal ≡ c.switch.new.self = ap (λ (x : Inside). x.journal) rest in
-    let doubted : Doubted = record { next = c.args.next; base = c.size-size.result; form = c.args.base.now.form } in
-    switch_waits first t0 old new s s' b c.args.next c' effect c.args.caller c.args.call tr made.later made.size to_old moments c.args.base.now is_base fits c.requires.fits
-    doubted refl c.size-size.ensures refl
+    let doubted : Doubted = record { next = c.args.next; form = c.args.base.now.form } in
+    switch_waits first t0 old new s s' b c.args.next c' effect c.args.caller c.args.call c.args.replies.0 tr made.later made.size to_old moments c.args.base.now is_base fits c.requires.fits
+    doubted refl refl
     (ap (λ (x : Inside). x.tapes) rest)
     c.wait.ensures.items
     (ap (λ (j : JournalValue). j.shape) (on_journal ∙ journal))
     (ap (λ (j : JournalValue). j.seat) (on_journal ∙ journal))
     (ap (λ (j : JournalValue). j.doubt) (on_journal ∙ journal))
     (ap (λ (x : Inside). x.doubt) rest)
-    (ap (λ (x : Inside). x.base) rest)
     (ap (λ (x : Inside). x.parts) rest)
     (switches_carry c.foundations.ensures old new)
     (λ h. (subst (λ (j : JournalValue). Doubts (λ r. switched r c.args.base.now.payloads) s.journal j old new) (sym on_journal) (λ r stands. c.in-Err-Doubt.ensures.doubt h r stands doubt), c.switch.ensures.crash h))
