@@ -67,6 +67,11 @@ check 'an option twice' 2 '' 'voice: usage: voice format|run|make
 ' format --block 8 --block 8
 check 'an option without its number' 2 '' 'voice: usage: voice format|run|make
 ' format --block
+check 'a class twice' 2 '' 'voice: usage: voice format|run|make
+' format --held 8 --grace 5 --held 8
+check 'a grace for each class' 0 '' '' format --held 60 --grace 5 --listed 0
+graces=$(od -An -v -tx1 -j24 -N18 "$work/voice.disk" | tr -d ' \n')
+expect 'the graces of the disk: the common one, 8 lanes, held, until, listed' [ "$graces" = 0000000500080000003c0000000500000000 ]
 check 'small blocks' 0 '' '' format --block 8 --blocks 16 --area 512 --grace 60 --lanes 4
 awk 'BEGIN { for (i = 0; i < 40; i++) print "1 record empty.ul" }' >"$work/forty.vs"
 expect 'a small journal gets full' sh -c "cd '$work' && [ \"\$('$top/voice' run forty.vs | tail -n 1)\" = '40 1 record: no journal-full 497 495' ]"

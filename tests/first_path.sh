@@ -7,6 +7,7 @@ usage='voice: usage: voice format|run|make
 '
 cp "$top/examples/hello.ul" "$work/hello.ul"
 cp "$top/examples/first.vs" "$work/first.vs"
+cp "$top/examples/mail.vs" "$work/mail.vs"
 : >"$work/empty.vs"
 printf '1 sing a' >"$work/sing.vs"
 printf '1 record hello.ul\n17 record hello.ul\n' >"$work/second.vs"
@@ -16,6 +17,18 @@ printf '1 record -x\n' >"$work/dash.vs"
 
 check 'the first script' 0 '1 1 record: rope 1 length 20
 ' '' run first.vs
+check 'a day of mail' 0 '1 1 record: rope 1 length 20
+2 1 retain: done
+3 2 lookup: found 1 6869
+4 2 sub: rope 2 length 10
+5 2 concat: rope 3 length 30
+6 2 retain: done
+7 2 forget: done
+8 1 advance: done
+9 1 sweep: swept 1 rows 2 ropes 1 2
+10 1 advance: done
+11 1 sweep: swept 0 rows 1 ropes 3
+' '' run mail.vs
 check 'two callers' 0 '1 16 record: rope 1 length 20
 2 2 record: rope 2 length 20
 ' '' run two.vs
