@@ -37,3 +37,4 @@ pub mod BaseSize
 pub mod RowsOfSweeps
 pub mod RowsOfLimits
 pub mod RowsOfMail
+pub mod Heard
