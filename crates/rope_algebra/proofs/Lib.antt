@@ -3,3 +3,4 @@ pub mod Joins
 pub mod Blocks
 pub mod Stretched
 pub mod Begun
+pub mod Firsts

@@ -51,7 +51,7 @@ length-spots_of [] = refl
 length-spots_of (p ∷ ps) =
     length-append (spots_in p) (spots_of ps) ∙ ap₂ (λ m n. m + n) (length-spots_from p.file p.from p.len) (length-spots_of ps)
 
-same_run : (file f g m n : ℕ) → f ≡ g → m ≡ n → spots_from file f m ≡ spots_from file g n
+pub same_run : (file f g m n : ℕ) → f ≡ g → m ≡ n → spots_from file f m ≡ spots_from file g n
 same_run file f g m n e h = ap₂ (λ from len. spots_from file from len) e h
 
 drop-run : (file from len s : ℕ) → drop s (spots_from file from len) ≡ spots_from file (from + min s len) (len - min s len)

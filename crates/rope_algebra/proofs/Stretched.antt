@@ -116,7 +116,7 @@ rest_normal p [] h = tt
 rest_normal p (q ∷ rest) h = h.2
 
 -- what is left of a piece, and what is behind it
-stretches_of_rest : (block : ℕ) (p part : Piece) (rest : List Piece) (skip : ℕ) → IsNormal (p ∷ rest) → part.file ≡ p.file → part.from ≡ p.from + min skip p.len → part.len ≡ min (p.len - skip) p.len → spots_in part ≡ slice (spots_in p) skip p.len → stretches block (drop skip (spots_in p ++ spots_of rest)) ≡ stretches block (spots_in part) ++ stretches block (drop (skip - p.len) (spots_of rest))
+pub stretches_of_rest : (block : ℕ) (p part : Piece) (rest : List Piece) (skip : ℕ) → IsNormal (p ∷ rest) → part.file ≡ p.file → part.from ≡ p.from + min skip p.len → part.len ≡ min (p.len - skip) p.len → spots_in part ≡ slice (spots_in p) skip p.len → stretches block (drop skip (spots_in p ++ spots_of rest)) ≡ stretches block (spots_in part) ++ stretches block (drop (skip - p.len) (spots_of rest))
 stretches_of_rest block p part rest skip normal file from len is =
     let cut = begins_block block in
     let own = length-spots_from p.file p.from p.len in

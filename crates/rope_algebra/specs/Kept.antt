@@ -7,9 +7,10 @@
 --     first_len ps      the length of the first piece
 --     IsPlaced ps starts n      the pieces of a rope of n samples, and where each starts
 --     AddsSpots old new ss      what keeps stays, and these places come behind
-use Rattle.std.specs.Prelude.{◌≡◌, ℕ, ◌+◌, ◌<◌, ◌≤◌, ◌^◌, List, [], ◌∷◌, ◌++◌}
+--     IsFirstStretch block at ps p      the first stretch behind the first `at` samples
+use Rattle.std.specs.Prelude.{◌≡◌, ℕ, ◌+◌, ◌%◌, ◌<◌, ◌≤◌, ◌^◌, List, [], ◌∷◌, ◌++◌, take, drop}
 use Rattle.voice_units.specs.declared.pieces.Piece.{Piece}
-use Rattle.voice_units.specs.Spots.{Spot, spots_of, samples_in, IsNormal}
+use Rattle.voice_units.specs.Spots.{Spot, spots_in, spots_of, samples_in, stretches, IsNormal}
 
 -- each piece ends at most at 2 ^ 30, where the longest voice file ends
 abbrev pub LieInFiles : List Piece → Type 0
@@ -57,3 +58,12 @@ pub record AddsSpots (old new : List Piece) (ss : List Spot) : Type 0 where
   pub normal : IsNormal new
   pub ends : LieInFiles new
   pub spots : spots_of new ≡ spots_of old ++ ss
+
+-- the first stretch behind the first `at` samples: it has some, it lies in one block, and the others come behind it
+pub record IsFirstStretch (block at : ℕ) (ps : List Piece) (p : Piece) : Type 0 where
+  pub some : 1 ≤ p.len
+  pub within : at + p.len ≤ samples_in ps
+  pub inside : p.from % block + p.len ≤ block
+  pub ends : p.from + p.len ≤ 2 ^ 30
+  pub spots : take p.len (drop at (spots_of ps)) ≡ spots_in p
+  pub rest : stretches block (drop at (spots_of ps)) ≡ p ∷ stretches block (drop (at + p.len) (spots_of ps))

@@ -1,11 +1,11 @@
 //! Pieces in normal form, and the edits of ropes on them.
 
-ghost use Rattle.std.specs.Prelude.{◌≡◌, ℕ, ◌+◌, ◌-◌, ◌%◌, ◌<◌, ◌≤◌, ◌^◌, ◌↔◌, [], ◌++◌, IfOk, length, slice_get};
-ghost use Rattle.voice_units.specs.Spots.{spots_in, spots_of, pieces_of, samples_in, slice, replaced, window};
-ghost use Rattle.rope_algebra.specs.Kept.{IsKept, LieInFiles, IsRope, IsCounted};
+ghost use Rattle.std.specs.Prelude.{◌≡◌, ℕ, ◌+◌, ◌-◌, ◌%◌, ◌<◌, ◌≤◌, ◌^◌, ◌↔◌, [], ◌++◌, IfOk, IfSome, IsNone, drop, length, slice_get};
+ghost use Rattle.voice_units.specs.Spots.{spots_in, spots_of, pieces_of, samples_in, slice, replaced, stretches, window};
+ghost use Rattle.rope_algebra.specs.Kept.{IsKept, LieInFiles, IsRope, IsCounted, IsFirstStretch};
 
 use super::cuts::{join, join_slice, part_of};
-use super::runs::window_of;
+use super::runs::{stretch_of, window_of};
 use super::starts::{Rest, rest_at, starts_of};
 use std::alloc::Global;
 use std::marker::Model;
@@ -162,6 +162,21 @@ impl Pieces {
         ensures { result ≡ slice_get self.now k }
     {
         self.pieces.get(k as usize).copied()
+    }
+
+    /// The first stretch behind the first `at` samples. It finds the piece there by a search, and takes no memory.
+    pub fn stretch(&self, at: u32, block: u32) -> Option<Piece>
+        requires at { at ≤ samples_in self.now }
+        requires block { 0 < block }
+        ensures value { result ≡ slice_get (stretches block (drop at (spots_of self.now))) 0 }
+        ensures first { IfSome result (λ stretch. IsFirstStretch block at self.now stretch) }
+        ensures none { IsNone result ↔ (at ≡ samples_in self.now) }
+    {
+        if at == self.length {
+            return None;
+        }
+        let rest = rest_at(&self.pieces, &self.starts, at);
+        Some(stretch_of(&rest.pieces[0], rest.skip, block))
     }
 
     /// How many samples the next window takes where `at` samples were heard. It finds the piece there by a search, and goes over the pieces up to the window's end.

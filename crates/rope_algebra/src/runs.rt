@@ -1,6 +1,6 @@
 //! Stretches of a run of samples, and windows.
 
-ghost use Rattle.std.specs.Prelude.{◌≡◌, ℕ, ◌+◌, ◌<◌, ◌≤◌, ◌^◌, length, take};
+ghost use Rattle.std.specs.Prelude.{◌≡◌, ℕ, ◌+◌, ◌-◌, ◌%◌, ◌<◌, ◌≤◌, ◌^◌, min, length, take};
 ghost use Rattle.voice_units.specs.Spots.{spots_from, spots_of, stretches, samples_in, window};
 ghost use Rattle.rope_algebra.specs.Kept.{IsRope};
 
@@ -33,6 +33,23 @@ pub fn first_stretches(from: u32, len: u32, block: u32, most: u32) -> Stretches
         count += 1;
     }
     Stretches { count, samples }
+}
+
+/// The first stretch of a piece behind its first `skip` samples.
+pub fn stretch_of(piece: &Piece, skip: u32, block: u32) -> Piece
+    requires end { piece.now.from + piece.now.len ≤ 2 ^ 30 }
+    requires skip { skip < piece.now.len }
+    requires block { 0 < block }
+    ensures file { result.file ≡ piece.now.file }
+    ensures from { result.from ≡ piece.now.from + skip }
+    ensures len { result.len ≡ min (block - (piece.now.from + skip) % block) (piece.now.len - skip) }
+{
+    let from = piece.from + skip;
+    Piece {
+        file: piece.file,
+        from,
+        len: (block - from % block).min(piece.len - skip),
+    }
 }
 
 /// How many samples the first four stretches have behind the first `heard` samples of pieces. It goes over the pieces up to where these stretches end.

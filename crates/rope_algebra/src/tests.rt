@@ -50,6 +50,14 @@ fn window(pieces: &Pieces, at: u32) -> u32 {
     }
 }
 
+fn stretch(pieces: &Pieces, at: u32) -> Option<Piece> {
+    if at <= pieces.length() {
+        pieces.stretch(at, 8)
+    } else {
+        None
+    }
+}
+
 fn are_at(pieces: &Pieces, wanted: &[(u64, u32, u32)]) -> bool {
     if pieces.count() as usize != wanted.len() {
         return false;
@@ -74,6 +82,21 @@ fn windows(rt: HostRuntime) -> Result<(), NoMemory> {
     for (at, wanted) in [(0, 16), (16, 12), (1, 15), (28, 0)] {
         assert_eq!(rt; window(&passage, at), wanted, "at {at}");
     }
+    Ok(())
+}
+
+#[test]
+fn stretches(rt: HostRuntime) -> Result<(), NoMemory> {
+    let list = [piece(1, 5, 6), piece(1, 13, 2), piece(2, 0, 20)];
+    let passage = Pieces::of(rt.alloc(), &list)?;
+    for (at, file, from, len) in [(0, 1, 5, 3), (4, 1, 9, 2), (7, 1, 14, 1), (24, 2, 16, 4)] {
+        assert_eq!(rt;
+            stretch(&passage, at),
+            Some(piece(file, from, len)),
+            "at {at}"
+        );
+    }
+    assert_eq!(rt; stretch(&passage, 28), None);
     Ok(())
 }
 
