@@ -1,0 +1,4 @@
+pub mod Looking
+pub mod Standing
+pub mod Walking
+pub mod Placing
