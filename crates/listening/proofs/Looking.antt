@@ -1,5 +1,5 @@
 -- Reads one after another.
-use Rattle.std.proofs.Common.{◌≡◌, ℕ, ◌+◌, ◌≤◌, ◌⊎◌, inl, inr, List, refl, sym, ◌∙◌, subst, arith}
+use Rattle.std.proofs.Common.{ℕ, ◌+◌, ◌≤◌, ◌⊎◌, inl, inr, List, refl, sym, ◌∙◌, subst, arith}
 use Rattle.std.specs.Prelude.{Result, IsTrue}
 use Rattle.voice_outside.specs.Disk.{Told, MakesAtMost, ReadsAt}
 use Rattle.listening.specs.Looks.{OnlyLooked, Looked}

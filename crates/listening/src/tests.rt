@@ -84,9 +84,10 @@ fn are_placed(blocks: &BlockMap, pieces: &Pieces, block: u32) -> bool
             return false;
         };
         let owner = Owner::File(sample.file);
-        if blocks.address(owner, sample.from / block).is_none() {
+        let Some(address) = blocks.address(owner, sample.from / block) else {
             return false;
-        }
+        };
+        let _held = address;
     }
     true
 }

@@ -1,5 +1,4 @@
-use Rattle.std.proofs.Common.{◌≡◌, ◌<◌, ◌≤◌, ◌+◌, ◌-◌, ◌%◌, ◌^◌, refl, sym, ap, ◌∙◌, arith, length}
-use Rattle.voice_units.specs.Spots.{samples_in}
+use Rattle.std.proofs.Common.{◌%◌, refl, ◌∙◌, arith}
 use Rattle.listening.specs.Heard.{pair_of}
 use Rattle.listening.proofs.Standing.{stretch_pair, part_length}
 use Rattle.listening.proofs.Walking.{begins, read_one, goes_on, all_heard, all_looked}

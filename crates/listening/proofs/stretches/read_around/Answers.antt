@@ -2,7 +2,6 @@ use Rattle.std.proofs.Common.{sym, ap, ◌∙◌}
 use Rattle.voice_outside.specs.Disk.{segment}
 use Rattle.voice_blocks.specs.Place.{block_place}
 use Rattle.listening.specs.Heard.{pair_of}
-use Rattle.listening.proofs.Looking.{look}
 use Rattle.listening.proofs.Standing.{on_ok, stretch_bytes}
 use Rattle.listening.proofs.stretches.read_around.Goals as goal
 
