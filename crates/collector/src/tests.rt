@@ -1,6 +1,6 @@
 //! Small sweeps and releases, and what each gives.
 
-ghost use Rattle.std.specs.Prelude.{◌≡◌, ◌+◌, ◌<◌, ◌≤◌, [], IfOk};
+ghost use Rattle.std.specs.Prelude.{◌≡◌, ◌+◌, ◌<◌, ◌≤◌};
 ghost use Rattle.voice_units.specs.Blocks.{BlockPair};
 ghost use Rattle.rope_table.specs.Table.{uses_at};
 ghost use Rattle.collector.specs.Due.{AreKept};
@@ -35,7 +35,7 @@ fn front(alloc: Global, len: u32) -> Result<Pieces, NoMemory> {
 }
 
 // A rope that no row names comes into the table. So many came before.
-fn put(
+fn add(
     table: &mut RopeTable,
     interests: &InterestTable,
     before: u32,
@@ -59,6 +59,74 @@ fn put(
     Ok(())
 }
 
+// A rope that has the first samples of file 1 and that no row names comes into the table. So many came before.
+fn put(
+    alloc: Global,
+    table: &mut RopeTable,
+    interests: &InterestTable,
+    before: u32,
+    len: u32,
+    idle: Moment,
+) -> Result<(), NoMemory>
+    requires few { before < 1000 }
+    requires uses { (pair : BlockPair) → uses_at table.old pair ≤ before }
+    ensures uses { (pair : BlockPair) → uses_at table.new pair ≤ before + 1 }
+    ensures kept { AreKept interests.now.rows table.old.ropes → AreKept interests.now.rows table.new.ropes }
+{
+    let pieces = front(alloc, len)?;
+    add(
+        table,
+        interests,
+        before,
+        RopeId(u64::from(before) + 1),
+        pieces,
+        idle,
+    )
+}
+
+// Ropes 1 and 2 are idle since 0, and rope 3 since 60.
+fn put_three(
+    alloc: Global,
+    table: &mut RopeTable,
+    interests: &InterestTable,
+) -> Result<(), NoMemory>
+    requires uses { (pair : BlockPair) → uses_at table.old pair ≤ 0 }
+    ensures kept { AreKept interests.now.rows table.old.ropes → AreKept interests.now.rows table.new.ropes }
+{
+    put(alloc, table, interests, 0, 8, Moment(0))?;
+    put(alloc, table, interests, 1, 8, Moment(0))?;
+    put(alloc, table, interests, 2, 8, Moment(60))
+}
+
+// Rope 1 is a recording of 16 samples, and rope 2 an edit that has the first ones.
+fn put_recording(
+    alloc: Global,
+    table: &mut RopeTable,
+    interests: &InterestTable,
+    len: u32,
+) -> Result<(), NoMemory>
+    requires { (pair : BlockPair) → uses_at table.old pair ≤ 0 }
+{
+    put(alloc, table, interests, 0, 16, Moment(0))?;
+    put(alloc, table, interests, 1, len, Moment(0))
+}
+
+// The row of rope 1.
+fn row_of(class: Class, moment: u8) -> Option<Row> {
+    let Ok(key) = Key::new(b"k") else {
+        return None;
+    };
+    let Ok(note) = Note::new(&[0, 0, 0, 0, 0, 0, 0, moment]) else {
+        return None;
+    };
+    Some(Row {
+        class,
+        key,
+        rope: RopeId(1),
+        note,
+    })
+}
+
 // A row comes, and keeps its rope.
 fn keep_rope(table: &mut RopeTable, interests: &mut InterestTable, row: Row) -> Result<(), NoMemory>
     ensures { AreKept interests.old.rows table.old.ropes → AreKept interests.new.rows table.new.ropes }
@@ -74,38 +142,6 @@ fn keep_rope(table: &mut RopeTable, interests: &mut InterestTable, row: Row) -> 
         }
         Err(_) => Err(NoMemory),
     }
-}
-
-// Ropes 1 and 2 are idle since 0, and rope 3 since 60.
-fn three(alloc: Global, interests: &InterestTable) -> Result<RopeTable, NoMemory>
-    ensures { IfOk result (λ table. AreKept interests.now.rows table.ropes) }
-{
-    let mut table = RopeTable::new(alloc, BLOCK);
-    put(
-        &mut table,
-        interests,
-        0,
-        RopeId(1),
-        front(alloc, 8)?,
-        Moment(0),
-    )?;
-    put(
-        &mut table,
-        interests,
-        1,
-        RopeId(2),
-        front(alloc, 8)?,
-        Moment(0),
-    )?;
-    put(
-        &mut table,
-        interests,
-        2,
-        RopeId(3),
-        front(alloc, 8)?,
-        Moment(60),
-    )?;
-    Ok(table)
 }
 
 // The number of the k-th of these ropes, or 0.
@@ -144,30 +180,52 @@ fn swept<L: Ledger>(
     Ok([number_at(ids, 0), number_at(ids, 1), number_at(ids, 2)])
 }
 
+// How many blocks become free where ropes go, and how many are free then.
+fn released<L: Ledger>(
+    table: &mut RopeTable,
+    blocks: &mut BlockMap,
+    ropes: &RopeList,
+    blank: Blank,
+) -> [u32; 2]
+    requires name { blank.name ≡ L.name }
+    requires parts { blank.parts ≡ L.parts }
+    requires one { blank.parts ≡ 1 }
+{
+    let mut steps = Steps::<L>::new(blank);
+    let freed = release(table, blocks, ropes, &mut steps);
+    [freed.blocks, blocks.free()]
+}
+
 // What a sweep removes where no rope has a row.
 fn swept_bare(alloc: Global, limit: u16) -> Result<[u64; 3], NoMemory> {
     let interests = InterestTable::new(alloc);
-    let table = three(alloc, &interests)?;
+    let mut table = RopeTable::new(alloc, BLOCK);
+    put_three(alloc, &mut table, &interests)?;
     swept::<Brand>(alloc, &table, &interests, 60, limit, Blank::new(1))
+}
+
+// Three ropes come, and then a row of the first.
+fn put_kept(
+    alloc: Global,
+    table: &mut RopeTable,
+    interests: &mut InterestTable,
+    row: Row,
+) -> Result<(), NoMemory>
+    requires { (pair : BlockPair) → uses_at table.old pair ≤ 0 }
+    ensures { AreKept interests.old.rows table.old.ropes → AreKept interests.new.rows table.new.ropes }
+{
+    put_three(alloc, table, interests)?;
+    keep_rope(table, interests, row)
 }
 
 // What a sweep removes where rope 1 has a row, of class Until with this moment, or else of class Held.
 fn swept_kept(alloc: Global, class: Class, moment: u8, until: u32) -> Result<[u64; 3], NoMemory> {
+    let Some(row) = row_of(class, moment) else {
+        return Err(NoMemory);
+    };
     let mut interests = InterestTable::new(alloc);
-    let mut table = three(alloc, &interests)?;
-    let Ok(key) = Key::new(b"k") else {
-        return Err(NoMemory);
-    };
-    let Ok(note) = Note::new(&[0, 0, 0, 0, 0, 0, 0, moment]) else {
-        return Err(NoMemory);
-    };
-    let row = Row {
-        class,
-        key,
-        rope: RopeId(1),
-        note,
-    };
-    keep_rope(&mut table, &mut interests, row)?;
+    let mut table = RopeTable::new(alloc, BLOCK);
+    put_kept(alloc, &mut table, &mut interests, row)?;
     swept::<Brand>(alloc, &table, &interests, until, 9, Blank::new(1))
 }
 
@@ -196,51 +254,44 @@ fn rows_keep_ropes(rt: HostRuntime) -> Result<(), Fail> {
     Ok(())
 }
 
-fn place(blocks: &mut BlockMap, index: u32) -> Result<bool, NoMemory> {
+// A block of file 1 comes to the address of its number.
+fn place(blocks: &mut BlockMap, index: u32) -> Result<(), NoMemory> {
     blocks.reserve(1)?;
-    Ok(blocks.place(RopeId(1), index, index))
+    if blocks.place(RopeId(1), index, index) {
+        return Ok(());
+    }
+    Err(NoMemory)
+}
+
+fn place_both(blocks: &mut BlockMap) -> Result<(), NoMemory> {
+    place(blocks, 0)?;
+    place(blocks, 1)
+}
+
+fn two_of_four(alloc: Global) -> Result<BlockMap, NoMemory> {
+    let mut blocks = BlockMap::new(alloc, 4)?;
+    place_both(&mut blocks)?;
+    Ok(blocks)
+}
+
+fn recording(alloc: Global, len: u32) -> Result<RopeTable, NoMemory> {
+    let mut table = RopeTable::new(alloc, BLOCK);
+    put_recording(alloc, &mut table, &InterestTable::new(alloc), len)?;
+    Ok(table)
+}
+
+fn first_rope(alloc: Global) -> Result<RopeList, NoMemory> {
+    let mut ids = Vec::new(alloc);
+    ids.push(RopeId(1))?;
+    Ok(RopeList::of(ids))
 }
 
 // How many blocks are free once a recording of 16 samples went, of which an edit has the first ones.
-fn free_beside<L: Ledger>(alloc: Global, len: u32, blank: Blank) -> Result<[u32; 2], NoMemory>
-    requires name { blank.name ≡ L.name }
-    requires parts { blank.parts ≡ L.parts }
-    requires one { blank.parts ≡ 1 }
-{
-    let interests = InterestTable::new(alloc);
-    let mut table = RopeTable::new(alloc, BLOCK);
-    put(
-        &mut table,
-        &interests,
-        0,
-        RopeId(1),
-        front(alloc, 16)?,
-        Moment(0),
-    )?;
-    put(
-        &mut table,
-        &interests,
-        1,
-        RopeId(2),
-        front(alloc, len)?,
-        Moment(0),
-    )?;
-    let mut blocks = BlockMap::new(alloc, 4)?;
-    if !place(&mut blocks, 0)? {
-        return Err(NoMemory);
-    }
-    if !place(&mut blocks, 1)? {
-        return Err(NoMemory);
-    }
-    let mut ids = Vec::new(alloc);
-    ids.push(RopeId(1))?;
-    let mut steps = Steps::<L>::new(blank);
-    let freed = release(&mut table, &mut blocks, &RopeList::of(ids), &mut steps);
-    Ok([freed.blocks, blocks.free()])
-}
-
 fn freed_beside(alloc: Global, len: u32) -> Result<[u32; 2], NoMemory> {
-    free_beside::<Brand>(alloc, len, Blank::new(1))
+    let ropes = first_rope(alloc)?;
+    let mut table = recording(alloc, len)?;
+    let mut blocks = two_of_four(alloc)?;
+    Ok(released::<Brand>(&mut table, &mut blocks, &ropes, Blank::new(1)))
 }
 
 #[test]

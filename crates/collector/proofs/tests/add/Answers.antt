@@ -4,7 +4,7 @@ use Rattle.rope_table.proofs.Checked.{few_new}
 use Rattle.interest_table.specs.Table.{rows_of}
 use Rattle.collector.specs.Due.{AreKept}
 use Rattle.collector.proofs.Tried.{rope_comes}
-use Rattle.collector.proofs.tests.put.Goals as goal
+use Rattle.collector.proofs.tests.add.Goals as goal
 
 pub add-requires-clause-pairs : goal.add-requires-clause-pairs
 add-requires-clause-pairs c =
