@@ -83,9 +83,10 @@ fn compacted(parts: &Parts, alloc: Global, shape: &Shape, form: u8) -> Result<Pa
     Err(NoMemory)
 }
 
+// Whether a payload has these bytes; none stand for any.
 fn is_payload(payloads: &Payloads, k: u32, bytes: &[u8]) -> bool {
     match payloads.get(k) {
-        Some(payload) => payload == bytes,
+        Some(payload) => bytes.is_empty() || payload == bytes,
         None => false,
     }
 }
@@ -106,23 +107,58 @@ fn same_until(payloads: &Payloads, list: &[&[u8]]) -> usize {
     }
 }
 
+// How many of these changes were done.
+fn done(parts: &mut Parts, alloc: Global, shape: &Shape, changes: &[&[u8]]) -> u64
+    requires { IsParts shape.now parts.old }
+    ensures { IsParts shape.now parts.new }
+{
+    let mut done = 0u64;
+    'changes: for bytes in changes {
+        done = tried(parts, alloc, shape, bytes).saturating_add(done);
+    }
+    done
+}
+
+// How far the base in a form is as the list has it, and its size.
+fn spelled(
+    parts: &Parts,
+    alloc: Global,
+    shape: &Shape,
+    form: u8,
+    list: &[&[u8]],
+) -> Result<(usize, u64), NoMemory>
+    requires { IsParts shape.now parts.now }
+{
+    let base = compacted(parts, alloc, shape, form)?;
+    Ok((same_until(&base, list), base.size()))
+}
+
+// The same once these changes were tried on nothing, in a disk of a version, with how many were done.
+fn changed(
+    alloc: Global,
+    version: u32,
+    changes: &[&[u8]],
+    form: u8,
+    list: &[&[u8]],
+) -> Result<(u64, usize, u64), NoMemory> {
+    let Ok(shape) = small_shape(version) else {
+        return Err(NoMemory);
+    };
+    let mut parts = empty_parts(alloc, &shape)?;
+    let count = done(&mut parts, alloc, &shape, changes);
+    let (same, size) = spelled(&parts, alloc, &shape, form, list)?;
+    Ok((count, same, size))
+}
+
 const BEGUN: [u8; 17] = [8, 0, 0, 0, 0, 0, 0, 0, 0, 0, 0, 0, 0, 0, 0, 0, 1];
 
 const BEGUN_2: [u8; 17] = [12, 0, 0, 0, 0, 0, 0, 0, 0, 0, 0, 0, 0, 0, 0, 0, 1];
 
 #[test]
 fn nothing(rt: HostRuntime) -> Result<(), Fail> {
-    let alloc = rt.alloc();
-    let Ok(shape) = small_shape(1) else {
-        return Ok(());
-    };
-    let parts = empty_parts(alloc, &shape)?;
-    let base = compacted(&parts, alloc, &shape, 1)?;
-    assert_eq!(rt; same_until(&base, &[&BEGUN]), 1);
-    assert_eq!(rt; base.size(), 22);
-    let base = compacted(&parts, alloc, &shape, 2)?;
-    assert_eq!(rt; same_until(&base, &[&BEGUN_2]), 1);
-    assert_eq!(rt; base.size(), 22);
+    for (form, begun) in [(1, &BEGUN), (2, &BEGUN_2)] {
+        assert_eq!(rt; changed(rt.alloc(), 1, &[], form, &[begun])?, (0, 1, 22));
+    }
     Ok(())
 }
 
@@ -156,21 +192,6 @@ const LAST_SAMPLE: [u8; 27] = [
 
 // Rope 4 goes, and with it the first block of its file.
 const SWEPT: [u8; 11] = [6, 0, 1, 0, 0, 0, 0, 0, 0, 0, 4];
-
-// How many of these changes were done.
-fn done(parts: &mut Parts, alloc: Global, shape: &Shape) -> u64
-    requires { IsParts shape.now parts.old }
-    ensures { IsParts shape.now parts.new }
-{
-    let first = tried(parts, alloc, shape, &RECORDED);
-    let second = tried(parts, alloc, shape, &EDITED);
-    let third = tried(parts, alloc, shape, &RETAINED);
-    let fourth = tried(parts, alloc, shape, &ADVANCED);
-    let fifth = tried(parts, alloc, shape, &RECORDED_LATER);
-    let sixth = tried(parts, alloc, shape, &LAST_SAMPLE);
-    let last = tried(parts, alloc, shape, &SWEPT);
-    first & second & third & fourth & fifth & sixth & last
-}
 
 const HEAD: [u8; 17] = [8, 0, 0, 0, 0, 0, 0, 0, 60, 0, 0, 0, 0, 0, 0, 0, 6];
 
@@ -206,24 +227,22 @@ const ROPE_5_2: [u8; 36] = [
     8, 0, 0, 0, 1,
 ];
 
+// An empty place of a list stands for any payload.
 #[test]
 fn changes(rt: HostRuntime) -> Result<(), Fail> {
-    let alloc = rt.alloc();
-    let Ok(shape) = small_shape(1) else {
-        return Ok(());
-    };
-    let mut parts = empty_parts(alloc, &shape)?;
-    assert_eq!(rt; done(&mut parts, alloc, &shape), 1);
-    let base = compacted(&parts, alloc, &shape, 1)?;
+    let changes: [&[u8]; 7] = [
+        &RECORDED,
+        &EDITED,
+        &RETAINED,
+        &ADVANCED,
+        &RECORDED_LATER,
+        &LAST_SAMPLE,
+        &SWEPT,
+    ];
     let list: [&[u8]; 7] = [&HEAD, &FILE, &FILE_4, &ROPE, &ROPE_3, &ROPE_5, &RETAINED];
-    assert_eq!(rt; same_until(&base, &list), 7);
-    assert_eq!(rt; base.size(), 243);
-    let base = compacted(&parts, alloc, &shape, 2)?;
-    assert!(rt; is_payload(&base, 0, &HEAD_2));
-    assert!(rt; is_payload(&base, 2, &FILE_4_2));
-    assert!(rt; is_payload(&base, 5, &ROPE_5_2));
-    assert!(rt; is_payload(&base, 6, &RETAINED));
-    assert_eq!(rt; base.size(), 254);
+    assert_eq!(rt; changed(rt.alloc(), 1, &changes, 1, &list)?, (7, 7, 243));
+    let list: [&[u8]; 7] = [&HEAD_2, &[], &FILE_4_2, &[], &[], &ROPE_5_2, &RETAINED];
+    assert_eq!(rt; changed(rt.alloc(), 1, &changes, 2, &list)?, (7, 7, 254));
     Ok(())
 }
 
@@ -238,24 +257,23 @@ const ROPE_LISTED: [u8; 36] = [
     0, 0, 0, 0, 9,
 ];
 
+const LISTED: [u8; 13] = [3, 3, 1, 0x6b, 0, 0, 0, 0, 0, 0, 0, 1, 0];
+
+const UNLISTED: [u8; 4] = [4, 3, 1, 0x6b];
+
+const HEAD_WIDE: [u8; 17] = [12, 0, 0, 0, 0, 0, 0, 0, 0, 0, 0, 0, 0, 0, 0, 0, 2];
+
+const FILE_WIDE: [u8; 29] = [
+    13, 0, 0, 0, 0, 0, 0, 0, 1, 0, 0, 0, 2, 0, 0, 0, 0, 0, 0, 0, 40, 0, 0, 0, 1, 0, 0, 0, 4,
+];
+
 #[test]
 fn last_class(rt: HostRuntime) -> Result<(), Fail> {
-    let alloc = rt.alloc();
-    let Ok(shape) = small_shape(2) else {
-        return Ok(());
-    };
-    let mut parts = empty_parts(alloc, &shape)?;
-    assert_eq!(rt; tried(&mut parts, alloc, &shape, &WIDE), 1);
-    let row = [3, 3, 1, 0x6b, 0, 0, 0, 0, 0, 0, 0, 1, 0];
-    assert_eq!(rt; tried(&mut parts, alloc, &shape, &row), 1);
-    assert_eq!(rt; tried(&mut parts, alloc, &shape, &[4, 3, 1, 0x6b]), 1);
-    let base = compacted(&parts, alloc, &shape, 2)?;
-    let head = [12, 0, 0, 0, 0, 0, 0, 0, 0, 0, 0, 0, 0, 0, 0, 0, 2];
-    let file = [
-        13, 0, 0, 0, 0, 0, 0, 0, 1, 0, 0, 0, 2, 0, 0, 0, 0, 0, 0, 0, 40, 0, 0, 0, 1, 0, 0, 0, 4,
-    ];
-    let list: [&[u8]; 3] = [&head, &file, &ROPE_LISTED];
-    assert_eq!(rt; same_until(&base, &list), 3);
+    let changes: [&[u8]; 3] = [&WIDE, &LISTED, &UNLISTED];
+    let list: [&[u8]; 3] = [&HEAD_WIDE, &FILE_WIDE, &ROPE_LISTED];
+    let (done, same, _size) = changed(rt.alloc(), 2, &changes, 2, &list)?;
+    assert_eq!(rt; done, 3);
+    assert_eq!(rt; same, 3);
     Ok(())
 }
 

@@ -168,20 +168,38 @@ fn in_common(first: &Payloads, second: &Payloads) -> Option<usize> {
     None
 }
 
+// Whether these payloads, replayed and spelled again, are the same.
+fn same_again(alloc: Global, shape: &Shape, base: &Payloads) -> Result<bool, NoMemory> {
+    let list = records(alloc, base)?;
+    let again = spelled_again(alloc, shape, &list)?;
+    Ok(in_common(base, &again) == Some(list.len()))
+}
+
+// Whether the base of parts is spelled again as it is.
+fn repeats(parts: &Parts, alloc: Global, shape: &Shape) -> Result<bool, NoMemory>
+    requires { IsParts shape.now parts.now }
+{
+    let base = compacted(parts, alloc, shape, 2)?;
+    same_again(alloc, shape, &base)
+}
+
+// How many changes were done, and whether the base of what they left is spelled again as it is.
+fn spelled_by(alloc: Global, seed: u64) -> Result<(u64, bool), NoMemory> {
+    let Ok(shape) = small_shape(2) else {
+        return Err(NoMemory);
+    };
+    let mut parts = empty_parts(alloc, &shape)?;
+    let done = try_many(&mut parts, alloc, &shape, seed, 200)?;
+    let same = repeats(&parts, alloc, &shape)?;
+    Ok((done, same))
+}
+
 #[test]
 fn spelled_twice(rt: HostRuntime) -> Result<(), Fail> {
-    let alloc = rt.alloc();
     for seed in 1..4 {
-        let Ok(shape) = small_shape(2) else {
-            return Ok(());
-        };
-        let mut parts = empty_parts(alloc, &shape)?;
-        let done = try_many(&mut parts, alloc, &shape, seed * 0x9E37_79B9, 200)?;
+        let (done, same) = spelled_by(rt.alloc(), seed * 0x9E37_79B9)?;
         assert!(rt; done > 40, "{done} changes were done");
-        let base = compacted(&parts, alloc, &shape, 2)?;
-        let list = records(alloc, &base)?;
-        let again = spelled_again(alloc, &shape, &list)?;
-        assert_eq!(rt; in_common(&base, &again), Some(list.len()));
+        assert!(rt; same);
     }
     Ok(())
 }

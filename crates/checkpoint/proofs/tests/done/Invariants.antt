@@ -1,0 +1,5 @@
+use Rattle.recovery.specs.Shown.{IsParts}
+use Rattle.checkpoint.proofs.tests.done.Given as goal
+
+abbrev pub invariant-changes : goal.invariant-changes
+invariant-changes l = IsParts l.shape l.parts
