@@ -2,6 +2,7 @@
 
 use super::{AddError, InterestTable, key_set};
 use std::alloc::Global;
+use std::collections::HashSet;
 use std::test::Fail;
 use voice_model::{Class, Key, KeyList, Note, Row};
 use voice_units::{Moment, NoMemory, RopeId};
@@ -11,29 +12,38 @@ const TAKEN: u64 = 777;
 // Where a call is refused for another reason than that its row stands.
 const REFUSED: u64 = 999;
 
-// 0 where the row comes, TAKEN where its class and key stand, or REFUSED.
-fn add(table: &mut InterestTable, class: Class, key: &[u8], rope: u32, note: &[u8]) -> u64 {
+fn row_of(class: Class, key: &[u8], rope: u32, note: &[u8]) -> Option<Row> {
     let Ok(key) = Key::new(key) else {
-        return REFUSED;
+        return None;
     };
     let Ok(note) = Note::new(note) else {
-        return REFUSED;
+        return None;
     };
-    let rope = RopeId(u64::from(rope));
+    Some(Row {
+        class,
+        key,
+        rope: RopeId(u64::from(rope)),
+        note,
+    })
+}
+
+// 0 where the row comes, TAKEN where its class and key stand, or REFUSED.
+fn add_row(table: &mut InterestTable, row: Row) -> u64 {
     if table.is_full() {
         return REFUSED;
     }
-    let row = Row {
-        class,
-        key,
-        rope,
-        note,
-    };
     match table.add(row) {
         Ok(()) => 0,
         Err(AddError::Taken(_)) => TAKEN,
         Err(AddError::NoMemory) => REFUSED,
     }
+}
+
+fn add(table: &mut InterestTable, class: Class, key: &[u8], rope: u32, note: &[u8]) -> u64 {
+    let Some(row) = row_of(class, key, rope, note) else {
+        return REFUSED;
+    };
+    add_row(table, row)
 }
 
 // The rope of the row that goes, or 0.
@@ -81,25 +91,73 @@ fn expiries(table: &InterestTable) -> Result<[usize; 4], NoMemory> {
     ])
 }
 
-// How many rows a census drops that names this key alone.
-fn unlisted(alloc: Global, table: &InterestTable, key: Key) -> Result<usize, NoMemory> {
-    let mut named = Vec::new(alloc);
-    named.push(key)?;
-    let keys = table.obsolete_listed(&KeyList::of(named))?;
+// How many rows a census drops that names these keys.
+fn unlisted(table: &InterestTable, named: &KeyList) -> Result<usize, NoMemory> {
+    let keys = table.obsolete_listed(named)?;
     Ok(keys.items().len())
 }
 
-// Three rows come, a fourth is refused, one goes: what each call answers, and what stands then.
-fn answers_in_order(table: &mut InterestTable) -> [u64; 8] {
-    let held = add(table, Class::Held, b"k", 1, b"");
-    let listed = add(table, Class::Listed, b"k", 2, b"");
-    let taken = add(table, Class::Held, b"k", 2, b"hi");
-    let another = add(table, Class::Held, b"m", 1, b"hi");
-    let gone = remove(table, Class::Held, b"k");
-    let again = remove(table, Class::Held, b"k");
-    let found = find(table, Class::Held, b"m");
-    let other = find(table, Class::Until, b"m");
-    [held, listed, taken, another, gone, again, found, other]
+fn named(alloc: Global, key: &[u8]) -> Result<KeyList, NoMemory> {
+    let Ok(key) = Key::new(key) else {
+        return Err(NoMemory);
+    };
+    let mut named = Vec::new(alloc);
+    named.push(key)?;
+    Ok(KeyList::of(named))
+}
+
+// The same where it names one key alone, of class Listed or of another.
+fn unlisted_each(alloc: Global, table: &InterestTable) -> Result<[usize; 2], NoMemory> {
+    let listed = unlisted(table, &named(alloc, b"n")?)?;
+    let held = unlisted(table, &named(alloc, b"h")?)?;
+    Ok([listed, held])
+}
+
+// A call of a table.
+#[derive(Clone, Copy)]
+enum Call {
+    Hold(u32),
+    List(u32),
+    Remove,
+    Find,
+    FindUntil,
+}
+
+// What a call answers for a key, with this note where a row comes.
+fn answer(table: &mut InterestTable, call: Call, key: &[u8], note: &[u8]) -> u64 {
+    match call {
+        Call::Hold(rope) => add(table, Class::Held, key, rope, note),
+        Call::List(rope) => add(table, Class::Listed, key, rope, note),
+        Call::Remove => remove(table, Class::Held, key),
+        Call::Find => find(table, Class::Held, key),
+        Call::FindUntil => find(table, Class::Until, key),
+    }
+}
+
+// How many of these calls do not answer what stands beside them.
+fn wrong_answers(table: &mut InterestTable, calls: &[(Call, &[u8], &[u8], u64)]) -> u64 {
+    let mut wrong: u64 = 0;
+    for (call, key, note, wanted) in calls {
+        if answer(table, *call, key, note) != *wanted {
+            wrong = wrong.wrapping_add(1);
+        }
+    }
+    wrong
+}
+
+// Three rows come, a fourth is refused, one goes.
+fn wrong_in_order(table: &mut InterestTable) -> u64 {
+    let calls: [(Call, &[u8], &[u8], u64); 8] = [
+        (Call::Hold(1), b"k", b"", 0),
+        (Call::List(2), b"k", b"", 0),
+        (Call::Hold(2), b"k", b"hi", TAKEN),
+        (Call::Hold(1), b"m", b"hi", 0),
+        (Call::Remove, b"k", b"", 1),
+        (Call::Remove, b"k", b"", 0),
+        (Call::Find, b"m", b"", 1),
+        (Call::FindUntil, b"m", b"", 0),
+    ];
+    wrong_answers(table, &calls)
 }
 
 fn ropes_of(table: &InterestTable) -> [u64; 4] {
@@ -111,24 +169,40 @@ fn ropes_of(table: &InterestTable) -> [u64; 4] {
     ]
 }
 
+fn ropes_of_copy(table: &InterestTable) -> Result<[u64; 4], NoMemory> {
+    let copy = table.copy()?;
+    Ok(ropes_of(&copy))
+}
+
 #[test]
 fn rows_stand_in_order(rt: HostRuntime) -> Result<(), Fail> {
     let mut table = InterestTable::new(rt.alloc());
-    let answers = answers_in_order(&mut table);
-    assert_eq!(rt; answers, [0, 0, TAKEN, 0, 1, 0, 1, 0]);
+    assert_eq!(rt; wrong_in_order(&mut table), 0);
     assert_eq!(rt; ropes_of(&table), [2, 1, 0, 1]);
-    let copy = table.copy()?;
-    assert_eq!(rt; ropes_of(&copy), [2, 1, 0, 1]);
+    assert_eq!(rt; ropes_of_copy(&table)?, [2, 1, 0, 1]);
     Ok(())
 }
 
-fn fill(table: &mut InterestTable) -> u64 {
-    let mut refused = add(table, Class::Until, b"u", 1, &[0, 0, 0, 0, 0, 0, 0, 30]);
-    refused |= add(table, Class::Listed, b"m", 2, b"");
-    refused |= add(table, Class::Until, b"v", 1, &[0, 0, 0, 0, 0, 0, 1, 0]);
-    refused |= add(table, Class::Listed, b"n", 2, b"");
-    refused |= add(table, Class::Held, b"h", 2, &[0, 0, 0, 0, 0, 0, 0, 1]);
+// How many of these rows are refused.
+fn fill_with(table: &mut InterestTable, rows: &[(Class, &[u8], u32, &[u8])]) -> u64 {
+    let mut refused: u64 = 0;
+    for (class, key, rope, note) in rows {
+        if add(table, *class, key, *rope, note) != 0 {
+            refused = refused.wrapping_add(1);
+        }
+    }
     refused
+}
+
+fn fill(table: &mut InterestTable) -> u64 {
+    let rows: [(Class, &[u8], u32, &[u8]); 5] = [
+        (Class::Until, b"u", 1, &[0, 0, 0, 0, 0, 0, 0, 30]),
+        (Class::Listed, b"m", 2, b""),
+        (Class::Until, b"v", 1, &[0, 0, 0, 0, 0, 0, 1, 0]),
+        (Class::Listed, b"n", 2, b""),
+        (Class::Held, b"h", 2, &[0, 0, 0, 0, 0, 0, 0, 1]),
+    ];
+    fill_with(table, &rows)
 }
 
 // A row of class Until goes at its moment; one of class Listed where no census names it; one of class Held never.
@@ -138,8 +212,7 @@ fn obsolete_rows(rt: HostRuntime) -> Result<(), Fail> {
     table.reserve(5)?;
     assert_eq!(rt; fill(&mut table), 0);
     assert_eq!(rt; expiries(&table)?, [0, 1, 1, 2]);
-    assert_eq!(rt; unlisted(rt.alloc(), &table, Key::new(b"n")?)?, 1);
-    assert_eq!(rt; unlisted(rt.alloc(), &table, Key::new(b"h")?)?, 2);
+    assert_eq!(rt; unlisted_each(rt.alloc(), &table)?, [1, 2]);
     Ok(())
 }
 
@@ -160,13 +233,17 @@ fn sizes_expired(alloc: Global) -> [u64; 4] {
     sizes_of(&table)
 }
 
-fn sizes_unlisted(alloc: Global) -> Result<[u64; 4], NoMemory> {
-    let mut table = InterestTable::new(alloc);
-    fill(&mut table);
-    let Ok(named) = Key::new(b"n") else {
+fn set_of(alloc: Global, key: &[u8]) -> Result<HashSet<Key>, NoMemory> {
+    let Ok(key) = Key::new(key) else {
         return Err(NoMemory);
     };
-    let named = key_set(alloc, &[named])?;
+    key_set(alloc, &[key])
+}
+
+fn sizes_unlisted(alloc: Global) -> Result<[u64; 4], NoMemory> {
+    let named = set_of(alloc, b"n")?;
+    let mut table = InterestTable::new(alloc);
+    fill(&mut table);
     table.remove_all(Class::Listed, &named);
     Ok(sizes_of(&table))
 }
@@ -181,12 +258,14 @@ fn rows_go_at_once(rt: HostRuntime) -> Result<(), Fail> {
 
 // Moments out of order, two and two equal; one spelled in 9 bytes, and one above 2^64.
 fn fill_moments(table: &mut InterestTable) -> u64 {
-    let mut refused = add(table, Class::Until, b"c", 3, &[0, 9]);
-    refused |= add(table, Class::Until, b"a", 1, &[7]);
-    refused |= add(table, Class::Until, b"d", 4, &[0, 0, 0, 0, 0, 0, 0, 0, 7]);
-    refused |= add(table, Class::Until, b"e", 5, &[1, 0, 0, 0, 0, 0, 0, 0, 1]);
-    refused |= add(table, Class::Until, b"b", 2, &[9]);
-    refused
+    let rows: [(Class, &[u8], u32, &[u8]); 5] = [
+        (Class::Until, b"c", 3, &[0, 9]),
+        (Class::Until, b"a", 1, &[7]),
+        (Class::Until, b"d", 4, &[0, 0, 0, 0, 0, 0, 0, 0, 7]),
+        (Class::Until, b"e", 5, &[1, 0, 0, 0, 0, 0, 0, 0, 1]),
+        (Class::Until, b"b", 2, &[9]),
+    ];
+    fill_with(table, &rows)
 }
 
 // The ropes of the rows that are expired at a moment, as the digits of a number.
@@ -219,23 +298,23 @@ fn rows_go_by_moment(rt: HostRuntime) -> Result<(), Fail> {
     let mut table = InterestTable::new(rt.alloc());
     assert_eq!(rt; fill_moments(&mut table), 0);
     assert_eq!(rt; ropes_by_moment(&table)?, [0, 14, 3142]);
-    assert_eq!(rt; ropes_after(&mut table, 8), [3, 5, 2, 0]);
-    assert_eq!(rt; ropes_after(&mut table, 9), [5, 0, 0, 0]);
+    for (moment, wanted) in [(8, [3, 5, 2, 0]), (9, [5, 0, 0, 0])] {
+        assert_eq!(rt; ropes_after(&mut table, moment), wanted);
+    }
     Ok(())
+}
+
+// A row comes under the bytes of its number.
+fn add_number(table: &mut InterestTable, number: u32) -> u64 {
+    let rope = number.saturating_add(1);
+    add(table, Class::Held, &number.to_be_bytes(), rope, b"")
 }
 
 // How many of a thousand rows, in order under the bytes of their numbers, are refused.
 fn fill_many(table: &mut InterestTable) -> u64 {
     let mut refused: u64 = 0;
     for k in 0..1000u32 {
-        if add(
-            table,
-            Class::Held,
-            &k.to_be_bytes(),
-            k.saturating_add(1),
-            b"",
-        ) != 0
-        {
+        if add_number(table, k) != 0 {
             refused = refused.wrapping_add(1);
         }
     }
@@ -284,10 +363,7 @@ fn many_rows_keep_their_order(rt: HostRuntime) -> Result<(), Fail> {
     let mut table = InterestTable::new(rt.alloc());
     assert_eq!(rt; fill_many(&mut table), 0);
     assert_eq!(rt; remove_some(&mut table), [1, 501, 1000, 0]);
-    assert_eq!(rt;
-        add(&mut table, Class::Held, &500u32.to_be_bytes(), 501, b""),
-        0
-    );
+    assert_eq!(rt; add_number(&mut table, 500), 0);
     assert_eq!(rt; order_of(&table), [0, 0, 501, 0]);
     Ok(())
 }
