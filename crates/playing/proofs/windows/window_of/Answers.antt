@@ -1,17 +1,16 @@
-use Rattle.std.proofs.Common.{◌∙◌, ◌+◌, sym, drop, arith}
-use Rattle.playing.proofs.Windowing.{at_piece, windowing_more}
+use Rattle.std.proofs.Common.{refl, ◌∙◌, sym, subst, ap, min}
+use Rattle.voice_units.specs.declared.pieces.Piece.{Piece}
+use Rattle.std.specs.Prelude.{List}
+use Rattle.playing.proofs.Windowing.{IsWindowing, windowing_none, windowing_more, windowing_ends}
 use Rattle.playing.proofs.windows.window_of.Goals as goal
 
-pub rest_of-part-requires : goal.rest_of-part-requires
-rest_of-part-requires c = (at_piece c.args.block c.args.passage.now c.args.passage.now c.loop-k.k c.in-Some.piece c.args.heard c.loop-k.skip c.loop-k.window.items (sym c.piece.ensures ∙ c.in-Some.is) c.loop-k.invariant).ends.0
-
-pub push_stretches-requires-clause-end : goal.push_stretches-requires-clause-end
-push_stretches-requires-clause-end c =
-    let end = (at_piece c.args.block c.args.passage.now c.args.passage.now c.loop-k.k c.in-Some.piece c.args.heard c.loop-k.skip c.loop-k.window.items (sym c.piece.ensures ∙ c.in-Some.is) c.loop-k.invariant).ends.0 in
-    omega (arith, end, c.rest_of-part.ensures.from, c.rest_of-part.ensures.len)
+pub loop-k-init : goal.loop-k-init
+loop-k-init c =
+    subst (λ (now : List Piece). IsWindowing c.args.block c.args.passage.now c.args.heard 0 c.min-at.result now) (sym c.in_ok-window.ensures.items)
+    (windowing_none c.args.block c.args.passage.now c.args.heard c.min-at.result (c.min-at.ensures ∙ ap (min c.args.heard) c.length.ensures.value))
 
 pub loop-k-preserved : goal.loop-k-preserved
-loop-k-preserved c =
-    windowing_more c.args.block c.args.passage.now (drop (c.loop-k.k + 1) c.args.passage.now) c.in-Some.piece c.rest_of-part.result c.args.heard c.loop-k.skip c.saturating_sub-skip.result c.loop-k.window.items c.push_stretches.new.window.items
-    (at_piece c.args.block c.args.passage.now c.args.passage.now c.loop-k.k c.in-Some.piece c.args.heard c.loop-k.skip c.loop-k.window.items (sym c.piece.ensures ∙ c.in-Some.is) c.loop-k.invariant)
-    c.rest_of-part.ensures.file c.rest_of-part.ensures.from c.rest_of-part.ensures.len c.saturating_sub-skip.ensures c.in_ok-push_stretches.ensures.few c.in_ok-push_stretches.ensures.pushed
+loop-k-preserved c = windowing_more c.args.block c.args.passage.now c.args.heard c.loop-k.k c.loop-k.at c.loop-k.window.items c.push.new.self.items c.in-Some.stretch c.loop-k-test.true c.in-Some.ensures.first c.in_ok-push.ensures.items c.loop-k.invariant
+
+pub returns-in_default : goal.returns-in_default
+returns-in_default c = windowing_ends c.args.block c.args.passage.now c.args.heard c.loop-k.k c.loop-k.at c.loop-k.window.items (c.in_default.ensures.none.0 refl) c.loop-k.invariant
