@@ -50,7 +50,7 @@ pub fn size(change: &Change) -> u64
 }
 
 // The number of a class in a spelling.
-pub(crate) fn number_of(class: Class) -> u8
+fn number_of(class: Class) -> u8
     ensures { result ≡ class_number class }
 {
     match class {

@@ -1,4 +1,4 @@
--- What Lookup replies and Forget is refused by.
+-- What a Forget is refused by.
 use Rattle.std.proofs.Common.{◌≡◌, ℕ, List, [], ◌∷◌, Option, Some, None, refl, sym, ◌∙◌, ap}
 use Rattle.voice_model.specs.State.{State, row_at}
 use Rattle.voice_model.specs.Step.{first_of, found, if_missing, refusal, reply_by}
@@ -6,13 +6,6 @@ use Rattle.voice_model.specs.declared.calls.Call.TheVariants as calls
 use Rattle.voice_model.specs.declared.calls.Class.{Class}
 use Rattle.voice_model.specs.declared.calls.Row.{Row}
 use Rattle.voice_model.specs.declared.calls.Why.TheVariants as why
-
-pub looked_up : (s : State) (tapes : List (List ℕ)) (class : Class) (key : List ℕ) → reply_by s tapes (calls.Lookup class key) (refusal s tapes (calls.Lookup class key)) ≡ found (row_at s.rows class key)
-looked_up s tapes class key = by (row_at s.rows class key) refl
-  where
-    by : (o : Option Row) → row_at s.rows class key ≡ o → reply_by s tapes (calls.Lookup class key) (first_of (if_missing o ∷ [])) ≡ found o
-    by None e = refl
-    by (Some row) e = ap found e
 
 pub missing : (rows others : List Row) (class : Class) (key : List ℕ) → others ≡ rows → None ≡ row_at others class key → first_of (if_missing (row_at rows class key) ∷ []) ≡ Some why.NoInterest
 missing rows others class key same e = ap (λ rows. first_of (if_missing (row_at rows class key) ∷ [])) (sym same) ∙ ap (λ o. first_of (if_missing o ∷ [])) (sym e)

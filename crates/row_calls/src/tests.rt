@@ -5,7 +5,7 @@ ghost use Rattle.voice_model.specs.Replay.{brings};
 ghost use Rattle.recovery.specs.Shown.{IsParts};
 ghost use Rattle.row_calls.specs.Asked.{is_row_call};
 
-use super::{Asked, Growth, ask, lookup};
+use super::{Asked, Growth, ask};
 use change_codec::get;
 use recovery::Parts;
 use std::alloc::Global;
@@ -100,7 +100,6 @@ fn number(reply: &Reply) -> u64 {
         Reply::Swept(rows, ropes) => {
             u64::from(*rows) * 10 + if ropes.items().is_empty() { 0 } else { 1 }
         }
-        Reply::Found(rope, note) => rope.number() * 256 + note.bytes().len() as u64,
         _ => REFUSED,
     }
 }
@@ -169,7 +168,6 @@ fn calls_asked_of_two_rows(rt: HostRuntime) -> Result<(), Fail> {
     let next = Key::new(&[0, 2])?;
     let note = Note::new(&[0, 0, 0, 0, 0, 0, 0, 9])?;
     let mut parts = filled(alloc, &shape)?;
-    assert_eq!(rt; number(&lookup(&parts, Class::Until, &first)), 264);
     let seen = all_asked(alloc, &mut parts, &shape, first, next, note);
     assert_eq!(rt;
         seen,
