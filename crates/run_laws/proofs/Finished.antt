@@ -1,6 +1,6 @@
 -- Two finished runs of one script print the same.
 --     Settled files name bytes history      what a finished run tells
-use Rattle.std.proofs.Common.{◌≡◌, ℕ, ◌+◌, ◌-◌, List, [], ◌∷◌, ◌++◌, map, length, take, false, Option, Some, None, refl, sym, ◌∙◌, ap, subst}
+use Rattle.std.proofs.Common.{◌≡◌, ℕ, ◌+◌, ◌-◌, List, [], ◌∷◌, ◌++◌, map, length, take, Bool, true, false, Option, Some, None, refl, sym, ◌∙◌, ap, subst}
 use Rattle.voice_model.specs.State.{State}
 use Rattle.voice_model.specs.Text.{text_from, text_of, entry_text}
 use Rattle.voice_model.specs.declared.calls.Entry.{Entry}
@@ -36,13 +36,13 @@ text_without n (e ∷ es) = ap (λ (t : List ℕ). entry_text n e ++ t) (text_wi
 pub one_text : (history other : List Entry) → SameButAcks history other → text_of history ≡ text_of other
 one_text history other p = sym (text_without 1 history) ∙ ap text_of p ∙ text_without 1 other
 
-asked_order : (first : State) (tapes : List (List ℕ)) (lines : List Line) (k : ℕ) (history : List Entry) → first.doubt ≡ None → Serial first tapes lines k history → NoFaults history
+asked_order : (first : State) (tapes : List (List ℕ)) (lines : List Line) (k : ℕ) (history : List Entry) → first.doubt ≡ None → Serial true first tapes lines k history → NoFaults history
     → InOrder tapes unset (take k lines) history
 asked_order first tapes lines k history none s calm =
     subst (λ (es : List Entry). InOrder tapes unset (take k lines) es) (all_asked first tapes history none s.legal (are_answered history calm)) s.order
 
 pub one_history : (first : State) (tapes : List (List ℕ)) (lines : List Line) (k : ℕ) (history other : List Entry) → first.doubt ≡ None
-    → Serial first tapes lines k history → Serial first tapes lines k other → NoFaults history → NoFaults other → SameButAcks history other
+    → Serial true first tapes lines k history → Serial true first tapes lines k other → NoFaults history → NoFaults other → SameButAcks history other
 one_history first tapes lines k history other none s t calm still =
     lines_alike first tapes unset (take k lines) history other (asked_order first tapes lines k history none s calm) (asked_order first tapes lines k other none t still)
     s.legal t.legal (are_answered history calm) (are_answered other still)
@@ -58,7 +58,7 @@ pub record Settled (files : Files) (name bytes : List ℕ) (history : List Entry
   pub ready : IsReady files name script tapes
   pub first : State
   pub opens : image.opened_from bytes ≡ Some first
-  pub serial : Serial first tapes script.lines (length script.lines) history
+  pub serial : Serial true first tapes script.lines (length script.lines) history
 
 opened_sure : (bytes : List ℕ) (first : State) (x : image.Reading) → image.opened_by bytes x ≡ Some first → first.doubt ≡ None
 opened_sure bytes first (image.Reading.Reads journal r) p =
@@ -79,7 +79,7 @@ settled name files bytes a b old new history d =
       ready = ran.ready;
       first = ran.performed.first;
       opens = ap image.opened_from (sym d.image) ∙ opens;
-      serial = ran.performed.made_so;
+      serial = subst (λ (honest : Bool). Serial honest ran.performed.first ran.tapes ran.script.lines (length ran.script.lines) history) d.honest ran.performed.made_so;
     }
 
 calm_run : (old new : Told) (name : List ℕ) (files : Files) (bytes : List ℕ) (a b : Seen) (history : List Entry) → IsDone name files bytes a old (seen b new) history → IsCalm (seen a old) (seen b new) → NoFaults history
@@ -120,11 +120,11 @@ module _ (files : Files) (name bytes : List ℕ) (history other : List Entry) (s
   same_first : s.first ≡ t.first
   same_first = one_some s.first t.first (image.opened_from bytes) s.opens t.opens
 
-  moved : Serial t.first t.tapes t.script.lines (length t.script.lines) history
+  moved : Serial true t.first t.tapes t.script.lines (length t.script.lines) history
   moved =
-      subst (λ (x : State). Serial x t.tapes t.script.lines (length t.script.lines) history) same_first
-      (subst (λ (x : List (List ℕ)). Serial s.first x t.script.lines (length t.script.lines) history) same_tapes
-      (subst (λ (x : Reading). Serial s.first s.tapes x.lines (length x.lines) history) same_script s.serial))
+      subst (λ (x : State). Serial true x t.tapes t.script.lines (length t.script.lines) history) same_first
+      (subst (λ (x : List (List ℕ)). Serial true s.first x t.script.lines (length t.script.lines) history) same_tapes
+      (subst (λ (x : Reading). Serial true s.first s.tapes x.lines (length x.lines) history) same_script s.serial))
 
   settled_alike : SameButAcks history other
   settled_alike =

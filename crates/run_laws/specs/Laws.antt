@@ -1,12 +1,12 @@
 -- What a finished run prints is determined: the laws, as statements.
---     HistoriesAreDetermined      one history of the same lines from one state, but for its moments
+--     HistoriesAreDetermined      one history of the same lines from one state over an honest disk, but for its moments
 --     Seen      what a run sees beside its disk
 --     IsCalm      no count of faults rose
 --     IsDone      a run that is done, over these files and from these bytes
 --     CalmRunsTellOfNoFault      where no count of faults rose, no entry tells of a fault
 --     GainAlike      two sinks gained the same
 --     RunsPrintAlike      two runs whose entries tell of no fault print the same
-use Rattle.std.specs.Prelude.{ℕ, List, ◌++◌, ◌≡◌, false, Option, Some, None, IsTrue}
+use Rattle.std.specs.Prelude.{ℕ, List, ◌++◌, ◌≡◌, true, false, Option, Some, None, IsTrue}
 use Rattle.voice_outside.specs.Disk.{Told}
 use Rattle.voice_outside.specs.Files.{Files}
 use Rattle.voice_model.specs.State.{State}
@@ -19,11 +19,11 @@ use Rattle.voice_main.specs.Ran.{Serial}
 use Rattle.voice_main.specs.RunPromise.{NoFaults, RunPromise}
 use Rattle.run_laws.specs.Alike.{SameButAcks}
 
--- the histories of the first k lines, where nothing is in doubt at first and no entry tells of a fault
+-- the histories of the first k lines over honest disks, where nothing is in doubt at first and no entry tells of a fault
 pub record HistoriesAreDetermined : Type 0 where
   pub histories :
       (first : State) (tapes : List (List ℕ)) (lines : List Line) (k : ℕ) (history other : List Entry) → first.doubt ≡ None
-      → Serial first tapes lines k history → Serial first tapes lines k other → NoFaults history → NoFaults other
+      → Serial true first tapes lines k history → Serial true first tapes lines k other → NoFaults history → NoFaults other
       → SameButAcks history other
   -- the moments don't show in the text
   pub texts : (history other : List Entry) → SameButAcks history other → text_of history ≡ text_of other

@@ -115,6 +115,8 @@ impl VerbName {
                 | VerbName::Sub
                 | VerbName::Replace
                 | VerbName::Length
+                | VerbName::Describe
+                | VerbName::Levels
                 | VerbName::Retain
                 | VerbName::Forget
                 | VerbName::Lookup

@@ -16,7 +16,7 @@ use Rattle.script_lang.specs.Shown.{Reading}
 use Rattle.voice_main.specs.declared.status.Status.{Status}
 use Rattle.voice_main.specs.declared.status.Status.TheVariants.{Done, Usage, BadShape, BadScript, NoFile, ShelfFault, SinkFault, BadDisk, DiskFault, NoMemory}
 use Rattle.voice_main.specs.Ordered.{InOrder, asked_entries, unset}
-use Rattle.voice_model.specs.Step.{Legal}
+use Rattle.voice_model.specs.Heard.{LegalOn}
 use Rattle.voice_main.specs.Ran.{IsReady, IsThere, OnDisk, Begun, Made, Performed, RanSoFar, RanWhole}
 use Rattle.voice_main.specs.Statuses.{Performs, Prints, Opens, IsSilent}
 use Rattle.voice_main.specs.Outside.{Outside, outside, SinkFaulted, IsUnchanged}
@@ -32,24 +32,25 @@ on_disk first origin disk inside stands opened = record {
   faults = stands.faults;
 }
 
-pub performed_by : (first : State) (origin disk : Told) (inside : Inside) (tapes : List (List ℕ)) (history : List Entry) (made : State → Type 0) → Stands first origin disk inside → (IsTrue origin.honest → opened_from origin.bytes ≡ Some first)
-    → inside.history.items ≡ history → arc_value inside.tapes ≡ tapes → made first → Performed tapes made origin disk history
+pub performed_by : (first : State) (origin disk : Told) (inside : Inside) (tapes : List (List ℕ)) (history : List Entry) (made : Bool → State → Type 0) → Stands first origin disk inside → (IsTrue origin.honest → opened_from origin.bytes ≡ Some first)
+    → inside.history.items ≡ history → arc_value inside.tapes ≡ tapes → made origin.honest first → Performed tapes made origin disk history
 performed_by first origin disk inside tapes history made stands opened same_history same_tapes so = record {
   first = first;
   made_so = so;
   disk = subst (λ h. OnDisk first tapes origin disk h) same_history (subst (λ t. OnDisk first t origin disk inside.history.items) same_tapes (on_disk first origin disk inside stands opened));
 }
 
-pub legal_of : (first : State) (origin disk : Told) (inside : Inside) (tapes : List (List ℕ)) (history : List Entry) → Stands first origin disk inside → inside.history.items ≡ history → arc_value inside.tapes ≡ tapes → Legal first tapes history
+pub legal_of : (first : State) (origin disk : Told) (inside : Inside) (tapes : List (List ℕ)) (history : List Entry) → Stands first origin disk inside → inside.history.items ≡ history → arc_value inside.tapes ≡ tapes → LegalOn origin.honest first tapes history
 legal_of first origin disk inside tapes history stands same_history same_tapes =
-    subst (λ h. Legal first tapes h) same_history (subst (λ t. Legal first t inside.history.items) same_tapes stands.stood.upright.legal)
+    subst (λ h. LegalOn origin.honest first tapes h) same_history
+    (subst (λ t. LegalOn origin.honest first t inside.history.items) same_tapes (subst (λ (x : Bool). LegalOn x first (arc_value inside.tapes) inside.history.items) stands.honest stands.stood.upright.legal))
 
 performed : (first : State) (origin disk : Told) (inside : Inside) (tapes : List (List ℕ)) (script : Reading) (k : ℕ) (history : List Entry) → Stands first origin disk inside → (IsTrue origin.honest → opened_from origin.bytes ≡ Some first)
     → inside.history.items ≡ history → arc_value inside.tapes ≡ tapes → InOrder tapes unset (take k script.lines) (asked_entries history) → Performed tapes (Begun false tapes script k history) origin disk history
 performed first origin disk inside tapes script k history stands opened same_history same_tapes order =
     let legal = legal_of first origin disk inside tapes history stands same_history same_tapes in
     performed_by first origin disk inside tapes history (Begun false tapes script k history) stands opened same_history same_tapes
-    (record { legal = legal; order = order; each = each_follows first tapes (take k script.lines) history legal order })
+    (record { legal = legal; order = order; each = each_follows origin.honest first tapes (take k script.lines) history legal order })
 
 -- ---- statuses
 

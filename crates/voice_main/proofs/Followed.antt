@@ -11,7 +11,8 @@ use Rattle.voice_model.specs.declared.calls.Call.{Call}
 use Rattle.voice_model.specs.declared.calls.Call.TheVariants as calls
 use Rattle.voice_model.specs.declared.calls.Reply.{Reply}
 use Rattle.voice_model.specs.State.{State}
-use Rattle.voice_model.specs.Step.{Legal, IsReply, state_after}
+use Rattle.voice_model.specs.Step.{IsReply, state_after}
+use Rattle.voice_model.specs.Heard.{IsReplyOn, IsAnswerOn, LegalOn}
 use Rattle.voice_model.specs.Follows.{Binding, Follows, value_of, variables_after}
 use Rattle.script_lang.specs.declared.scripts.Line.{Line}
 use Rattle.script_lang.specs.Errands.{errand_of, SameValues}
@@ -116,6 +117,16 @@ by_nobody s tapes caller (calls.Add lane take) reply h is = absurd (no is)
 by_nobody s tapes caller (calls.End lane) reply h is = absurd (no is)
 by_nobody s tapes caller (calls.Levels id) reply h is = absurd (no is)
 
+-- also where only its reply is right, but for what was read off a disk
+nobody_on : (honest : Bool) (s : State) (tapes : List (List ℕ)) (caller : ℕ) (call : Call) (reply : Reply) → IsReplyOn honest s tapes caller call reply → is_landing call ≡ true → caller ≡ 0
+nobody_on true s tapes caller call reply h is = by_nobody s tapes caller call reply h is
+nobody_on false s tapes caller call reply h is = by_nobody s tapes caller call h.right h.answer is
+
+-- the first entry, and the later ones
+parts : (honest : Bool) (s : State) (tapes : List (List ℕ)) (e : Entry) (es : List Entry) → LegalOn honest s tapes (e ∷ es) → IsAnswerOn honest s tapes e × LegalOn honest (state_after s tapes e) tapes es
+parts true s tapes e es legal = legal
+parts false s tapes e es legal = legal
+
 not_nobody : (caller c : ℕ) → caller ≡ 0 → 1 ≤ c → (caller == c) ≡ false
 not_nobody caller c none some = grind (arith, nat_tests)
 
@@ -125,14 +136,15 @@ aside true e asked all c is lands same = same ∙ sym (ap (λ x. cond x (e ∷ e
 aside false e asked all c is lands same = ap (λ l. cond (e.caller == c) (e ∷ l) l) same
 
 -- landings are no entries of a caller
-same_of_caller : (s : State) (tapes : List (List ℕ)) (history : List Entry) (c : ℕ) → 1 ≤ c → Legal s tapes history → entries_of_caller c (asked_entries history) ≡ entries_of_caller c history
-same_of_caller s tapes [] c some legal = refl
-same_of_caller s tapes (e ∷ es) c some legal =
-    aside (is_landing e.call) e (asked_entries es) es c refl (λ is. not_nobody e.caller c (by_nobody s tapes e.caller e.call e.reply legal.0 is) some) (same_of_caller (state_after s tapes e) tapes es c some legal.1)
+same_of_caller : (honest : Bool) (s : State) (tapes : List (List ℕ)) (history : List Entry) (c : ℕ) → 1 ≤ c → LegalOn honest s tapes history → entries_of_caller c (asked_entries history) ≡ entries_of_caller c history
+same_of_caller honest s tapes [] c some legal = refl
+same_of_caller honest s tapes (e ∷ es) c some legal =
+    let both = parts honest s tapes e es legal in
+    aside (is_landing e.call) e (asked_entries es) es c refl (λ is. not_nobody e.caller c (nobody_on honest s tapes e.caller e.call e.reply both.0 is) some) (same_of_caller honest (state_after s tapes e) tapes es c some both.1)
 
-pub each_follows : (s : State) (tapes : List (List ℕ)) (lines : List Line) (history : List Entry) → Legal s tapes history → InOrder tapes unset lines (asked_entries history) → EachFollows tapes lines history
-each_follows s tapes lines history legal order = λ c some.
-    subst (Follows [] (map (errand_of tapes) (lines_of_caller c lines))) (same_of_caller s tapes history c some legal) (each_of tapes unset lines (asked_entries history) order c)
+pub each_follows : (honest : Bool) (s : State) (tapes : List (List ℕ)) (lines : List Line) (history : List Entry) → LegalOn honest s tapes history → InOrder tapes unset lines (asked_entries history) → EachFollows tapes lines history
+each_follows honest s tapes lines history legal order = λ c some.
+    subst (Follows [] (map (errand_of tapes) (lines_of_caller c lines))) (same_of_caller honest s tapes history c some legal) (each_of tapes unset lines (asked_entries history) order c)
 
 -- ---- the variables that the callers' environments stand for
 

@@ -3,7 +3,7 @@ use Rattle.std.proofs.Common.{◌≡◌, ◌∙◌, refl, arith}
 use Rattle.std.specs.Prelude.{Result, Ok, Err, false, OnOk}
 use Rattle.std.specs.Result.{is_err}
 use Rattle.voice_outside.specs.Disk.{Told}
-use Rattle.voice_server.specs.Kept.{GoesOn}
+use Rattle.voice_store.specs.Facts.{GoesOn}
 
 pub rests : (disk : Told) → GoesOn disk disk
 rests disk = record { size = refl; honest = refl; later = omega arith; faults = omega arith }

@@ -20,7 +20,8 @@ use Rattle.turnstile.specs.Passes.{AreNewFrom, mine, seen}
 use Rattle.turnstile.proofs.Views.{none_yet}
 use Rattle.voice_server.specs.declared.born.Born.{Born}
 use Rattle.voice_server.specs.declared.standing.Standing.{Standing}
-use Rattle.voice_server.specs.Kept.{GoesOn, IsKept}
+use Rattle.voice_store.specs.Facts.{GoesOn}
+use Rattle.voice_server.specs.Kept.{IsKept}
 use Rattle.callers.specs.Lines.{Followed, lines_of_caller}
 use Rattle.callers.specs.Seats.{PassRan, EachRan}
 use Rattle.voice_main.specs.Ordered.{EachFollows, entries_of_caller}
@@ -118,7 +119,7 @@ pub begun_shared : {D : Type 0} (told : D → Told) (s : Shown D) (entry out : D
     → ((c : ℕ) → 1 ≤ c → Own tapes script.lines memory c (entries_of_caller c (history_of s))) → Performed tapes (Begun true tapes script 0 history) (told entry) (told out) history
 begun_shared told s entry out tapes script memory history kept origin same_tapes same_disk same_history of own =
     let legal = legal_of kept.first (told s.origin) (told s.disk) s.inside tapes (history_of s) kept.keeps refl same_tapes in
-    let made : Shared kept.first tapes script (history_of s) = record { legal = legal; of = of; each = λ c least. (own c least).so_far } in
+    let made : Shared (told s.origin).honest kept.first tapes script (history_of s) = record { legal = legal; of = of; each = λ c least. (own c least).so_far } in
     let there : Performed tapes (Begun true tapes script 0 (history_of s)) (told s.origin) (told s.disk) (history_of s) = performed_by kept.first (told s.origin) (told s.disk) s.inside tapes (history_of s) (Begun true tapes script 0 (history_of s)) kept.keeps kept.opened refl same_tapes made in
     subst (λ h. Performed tapes (Begun true tapes script 0 h) (told entry) (told out) h) (sym same_history)
     (subst (λ d. Performed tapes (Begun true tapes script 0 (history_of s)) (told entry) (told d) (history_of s)) (sym same_disk) (subst (λ d. Performed tapes (Begun true tapes script 0 (history_of s)) (told d) (told s.disk) (history_of s)) origin there))
@@ -128,7 +129,7 @@ pub made_shared : {D : Type 0} (told : D → Told) (s : Shown D) (entry out : D)
 made_shared told s entry out tapes script memory history kept origin same_tapes same_disk same_history of own done =
     let legal = legal_of kept.first (told s.origin) (told s.disk) s.inside tapes (history_of s) kept.keeps refl same_tapes in
     let each : EachFollows tapes script.lines (history_of s) = λ c least. subst (λ ls. Follows [] (map (errand_of tapes) (lines_of_caller c ls)) (entries_of_caller c (history_of s))) (take_all (length script.lines) script.lines (omega arith)) ((own c least).whole done) in
-    let made : SharedWhole kept.first tapes script (history_of s) = record { legal = legal; of = of; each = each } in
+    let made : SharedWhole (told s.origin).honest kept.first tapes script (history_of s) = record { legal = legal; of = of; each = each } in
     let there : Performed tapes (Made true tapes script (history_of s)) (told s.origin) (told s.disk) (history_of s) = performed_by kept.first (told s.origin) (told s.disk) s.inside tapes (history_of s) (Made true tapes script (history_of s)) kept.keeps kept.opened refl same_tapes made in
     subst (λ h. Performed tapes (Made true tapes script h) (told entry) (told out) h) (sym same_history)
     (subst (λ d. Performed tapes (Made true tapes script (history_of s)) (told entry) (told d) (history_of s)) (sym same_disk) (subst (λ d. Performed tapes (Made true tapes script (history_of s)) (told d) (told s.disk) (history_of s)) origin there))

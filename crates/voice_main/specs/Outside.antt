@@ -6,7 +6,7 @@ use Rattle.std.specs.Prelude.{ℕ, List, Option, ◌≡◌, ◌⊎◌, IsTrue}
 use Rattle.voice_outside.specs.Counters.{HasRisen}
 use Rattle.voice_outside.specs.Disk.{Told}
 use Rattle.voice_outside.specs.Files.{Files}
-use Rattle.voice_store.specs.Facts.{OnlyLooked}
+use Rattle.listening.specs.Looks.{OnlyLooked}
 
 -- the shelf's files and faults, the sink's contents, faults and empty takes, and what the disk tells
 pub record Outside : Type 1 where

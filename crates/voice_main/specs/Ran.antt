@@ -1,7 +1,7 @@
 -- What a run of a script leaves.
 --     OnDisk first tapes old new history      what the disk was opened as, and what a crash may leave of the history
---     Serial first tapes lines k history      the history of the first k lines: legal, in order, each caller's entries following its lines
---     Shared first tapes script history      the history of callers on threads: legal, and each caller's entries following the first of its lines
+--     Serial honest first tapes lines k history      the history of the first k lines: legal on a disk of this honesty, in order, each caller's entries following its lines
+--     Shared honest first tapes script history      the history of callers on threads: legal on a disk of this honesty, and each caller's entries following the first of its lines
 --     Performed tapes made old new history      a disk that was opened, and a history over it that was made so
 --     IsReady files name script tapes      the script of that name is there, and so are its sample files
 --     RanSoFar, RanWhole      the history of the first lines of the script, or of all
@@ -11,7 +11,7 @@ use Rattle.voice_outside.specs.Disk.{Told}
 use Rattle.voice_outside.specs.Files.{Files}
 use Rattle.voice_model.specs.declared.calls.Entry.{Entry}
 use Rattle.voice_model.specs.State.{State}
-use Rattle.voice_model.specs.Step.{Legal}
+use Rattle.voice_model.specs.Heard.{LegalOn}
 use Rattle.voice_model.specs.Image.{opened_from, recovered_from}
 use Rattle.voice_model.specs.Crash.{Held}
 use Rattle.voice_model.specs.Follows.{Follows}
@@ -34,9 +34,9 @@ pub record OnDisk (first : State) (tapes : List (List ℕ)) (old new : Told) (hi
   pub acks : AcksRise (old.calls + 1) history new.calls
   pub faults : FaultsCover old.faults history new.faults
 
--- the history of the first k lines of a script
-pub record Serial (first : State) (tapes : List (List ℕ)) (lines : List Line) (k : ℕ) (history : List Entry) : Type 0 where
-  pub legal : Legal first tapes history
+-- the history of the first k lines of a script: on an honest disk it is legal, and on every other it is but for the talk and peaks that were read off the disk
+pub record Serial (honest : Bool) (first : State) (tapes : List (List ℕ)) (lines : List Line) (k : ℕ) (history : List Entry) : Type 0 where
+  pub legal : LegalOn honest first tapes history
   pub order : InOrder tapes unset (take k lines) (asked_entries history)
   pub each : EachFollows tapes (take k lines) history
 
@@ -44,32 +44,32 @@ pub record Serial (first : State) (tapes : List (List ℕ)) (lines : List Line) 
 abbrev pub EachBegins : List (List ℕ) → List Line → List Entry → Type 0
 EachBegins tapes lines history = (caller : ℕ) → 1 ≤ caller → (k : ℕ) × Follows [] (map (errand_of tapes) (lines_of_caller caller (take k lines))) (entries_of_caller caller history)
 
--- the history of callers on threads of their own: legal, each entry a landing or one of a caller of the script, and each caller's entries following the first of its lines
-pub record Shared (first : State) (tapes : List (List ℕ)) (script : Reading) (history : List Entry) : Type 0 where
-  pub legal : Legal first tapes history
+-- the history of callers on threads of their own: legal on an honest disk, and on every other but for the talk and peaks that were read off the disk, each entry a landing or one of a caller of the script, and each caller's entries following the first of its lines
+pub record Shared (honest : Bool) (first : State) (tapes : List (List ℕ)) (script : Reading) (history : List Entry) : Type 0 where
+  pub legal : LegalOn honest first tapes history
   pub of : Every (IsOfPasses script.callers) history
   pub each : EachBegins tapes script.lines history
 
 -- all their lines
-pub record SharedWhole (first : State) (tapes : List (List ℕ)) (script : Reading) (history : List Entry) : Type 0 where
-  pub legal : Legal first tapes history
+pub record SharedWhole (honest : Bool) (first : State) (tapes : List (List ℕ)) (script : Reading) (history : List Entry) : Type 0 where
+  pub legal : LegalOn honest first tapes history
   pub of : Every (IsOfPasses script.callers) history
   pub each : EachFollows tapes script.lines history
 
--- the history of the first lines of a script: of k in the script's order, or of callers on threads
-abbrev pub Begun : Bool → List (List ℕ) → Reading → ℕ → List Entry → State → Type 0
-Begun false tapes script k history first = Serial first tapes script.lines k history
-Begun true tapes script k history first = Shared first tapes script history
+-- the history of the first lines of a script: of k in the script's order, or of callers on threads; on a disk of this honesty, from this state
+abbrev pub Begun : Bool → List (List ℕ) → Reading → ℕ → List Entry → Bool → State → Type 0
+Begun false tapes script k history honest first = Serial honest first tapes script.lines k history
+Begun true tapes script k history honest first = Shared honest first tapes script history
 
 -- the history of the whole script
-abbrev pub Made : Bool → List (List ℕ) → Reading → List Entry → State → Type 0
-Made false tapes script history first = Serial first tapes script.lines (length script.lines) history
-Made true tapes script history first = SharedWhole first tapes script history
+abbrev pub Made : Bool → List (List ℕ) → Reading → List Entry → Bool → State → Type 0
+Made false tapes script history honest first = Serial honest first tapes script.lines (length script.lines) history
+Made true tapes script history honest first = SharedWhole honest first tapes script history
 
--- a disk that was opened, and a history over it that was made so
-pub record Performed (tapes : List (List ℕ)) (made : State → Type 0) (old new : Told) (history : List Entry) : Type 0 where
+-- a disk that was opened, and a history over it that was made so, as the disk is honest or not
+pub record Performed (tapes : List (List ℕ)) (made : Bool → State → Type 0) (old new : Told) (history : List Entry) : Type 0 where
   pub first : State
-  pub made_so : made first
+  pub made_so : made old.honest first
   pub disk : OnDisk first tapes old new history
 
 -- the script of that name is there, and so are its sample files
@@ -86,7 +86,7 @@ pub record IsThere (files : Files) (name : List ℕ) : Type 0 where
   pub ready : IsReady files name script tapes
 
 -- a script over its sample files, and a history that was made so
-pub record Ran (files : Files) (name : List ℕ) (made : List (List ℕ) → Reading → State → Type 0) (old new : Told) (history : List Entry) : Type 0 where
+pub record Ran (files : Files) (name : List ℕ) (made : List (List ℕ) → Reading → Bool → State → Type 0) (old new : Told) (history : List Entry) : Type 0 where
   pub script : Reading
   pub tapes : List (List ℕ)
   pub ready : IsReady files name script tapes
@@ -94,8 +94,8 @@ pub record Ran (files : Files) (name : List ℕ) (made : List (List ℕ) → Rea
 
 -- the history of the first k lines
 abbrev pub RanSoFar : Bool → Files → List ℕ → Told → Told → List Entry → Type 0
-RanSoFar threads files name old new history = (k : ℕ) × Ran files name (λ tapes script first. Begun threads tapes script k history first) old new history
+RanSoFar threads files name old new history = (k : ℕ) × Ran files name (λ tapes script honest first. Begun threads tapes script k history honest first) old new history
 
 -- the history of the whole script
 abbrev pub RanWhole : Bool → Files → List ℕ → Told → Told → List Entry → Type 0
-RanWhole threads files name old new history = Ran files name (λ tapes script first. Made threads tapes script history first) old new history
+RanWhole threads files name old new history = Ran files name (λ tapes script honest first. Made threads tapes script history honest first) old new history

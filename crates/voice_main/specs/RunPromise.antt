@@ -103,7 +103,7 @@ IsComplete files name old new history status =
     IsThere files name → IsTrue old.disk.honest → IsRead old.disk → (ShelfFaulted old new → ⊥) → (SinkFaulted old new → ⊥) → (DiskFaulted old new → ⊥)
     → ((status ≡ Done) ⊎ (status ≡ NoMemory)) × NoFaults history
 
--- Of `Done` this says that the history is legal from the state that the disk was opened in, in the order of the lines, each caller's entries following its lines, and what a crash may leave of it.
+-- Of `Done` this says that the history is legal from the state that the disk was opened in (on an honest disk all of it, on every other all but the talk and peaks that were read off the disk), in the order of the lines, each caller's entries following its lines, and what a crash may leave of it.
 pub record RunPromise (threads : Bool) (name : List ℕ) (old new : Outside) (status : Status) (history : List Entry) : Type 0 where
   pub comes : RunComes threads name old new history status
   pub so_far : RunSoFar threads name old new history

@@ -4,7 +4,7 @@ ghost use Rattle.std.specs.Prelude.{◌≡◌, ◌≤◌, IsTrue, IfOk, IfErr};
 ghost use Rattle.voice_outside.specs.Counters.{HasRisen};
 ghost use Rattle.voice_outside.specs.Disk.{Now};
 ghost use Rattle.voice_main.specs.FormatPromise.{HasRoom, HasNumbers, Formats, FormatStatus};
-ghost use Rattle.voice_server.specs.Kept.{GoesOn};
+ghost use Rattle.voice_store.specs.Facts.{GoesOn};
 
 use crate::options::FormatNumbers;
 use crate::status::Status;

@@ -9,7 +9,7 @@ ghost use Rattle.script_lang.specs.Grammar.{verb_name};
 ghost use Rattle.script_lang.specs.Errands.{HasTape, HasItsRopes, IsInItsRange, SameValues};
 ghost use Rattle.script_lang.specs.Whole.{IsWhole};
 ghost use Rattle.voice_main.specs.Ordered.{InOrder, LineRan, LineBound, asked_entries, unset};
-ghost use Rattle.voice_server.specs.Kept.{GoesOn};
+ghost use Rattle.voice_store.specs.Facts.{GoesOn};
 
 use script_lang::{Env, Line, Script, resolve};
 use std::alloc::Global;

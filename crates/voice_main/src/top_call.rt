@@ -6,7 +6,7 @@ ghost use Rattle.voice_model.specs.Text.{text_of};
 ghost use Rattle.voice_outside.specs.Counters.{HasRisen};
 ghost use Rattle.script_lang.specs.Verbs.{is_built_verb};
 ghost use Rattle.script_lang.specs.Whole.{IsWhole};
-ghost use Rattle.voice_server.specs.Kept.{GoesOn};
+ghost use Rattle.voice_store.specs.Facts.{GoesOn};
 ghost use Rattle.voice_main.specs.Words.{Command, Says, IsRefused};
 ghost use Rattle.voice_main.specs.Outside.{outside, IsUnchanged};
 ghost use Rattle.voice_main.specs.Ran.{IsReady, Performed, Begun, Made};

@@ -1,24 +1,17 @@
 -- What holds of a store between turns.
---     GoesOn old new      the counts of a disk after calls
 --     IsKept told s      all that a store keeps, from the disk that it was opened on
 use Rattle.std.specs.Prelude.{◌≡◌, ◌≤◌, List, Some, IsTrue}
 use Rattle.voice_outside.specs.Disk.{Told}
 use Rattle.voice_model.specs.State.{State}
 use Rattle.voice_model.specs.Image.{opened_from}
 use Rattle.voice_model.specs.declared.calls.Entry.{Entry}
+use Rattle.voice_store.specs.Facts.{GoesOn}
 use Rattle.voice_store.specs.Shown.{Shown, Keeps, tapes_in}
 use Rattle.voice_store.specs.Shown as shown
 use Rattle.voice_server.specs.declared.born.Born.{Born}
 use Rattle.voice_server.specs.declared.standing.Standing.{Standing}
 
--- the counts of a disk after calls
-pub record GoesOn (old new : Told) : Type 0 where
-  pub size : new.size ≡ old.size
-  pub honest : new.honest ≡ old.honest
-  pub later : old.calls ≤ new.calls
-  pub faults : old.faults ≤ new.faults
-
--- all that a store keeps, from the disk that it was opened on: an honest disk was opened as what its bytes recover; the history is legal from there, and held
+-- all that a store keeps, from the disk that it was opened on: an honest disk was opened as what its bytes recover; the history is legal from there, on a disk that isn't honest but for the talk and peaks that were read off it, and held
 pub record IsKept {D : Type 0} (told : D → Told) (s : Shown D) : Type 0 where
   pub first : State
   pub keeps : Keeps told first s

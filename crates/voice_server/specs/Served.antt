@@ -2,12 +2,12 @@
 --     store_of s, tapes_of s      the store that the server was made with, and its tapes
 --     IsPassOf s p      a pass of this server that is outside
 --     AddsEntry call reply p q      one turn that was answered
---     IsLegalFrom told s history      the history is legal from what the server's disk was opened as
+--     IsLegalFrom told s history      the history is legal from what the server's disk was opened as, on a disk that isn't honest but for the talk and peaks that were read off it
 --     IsClosed s passes history      the history that the server is closed with
 use Rattle.std.specs.Prelude.{◌≡◌, ℕ, List, [], ◌∷◌, ◌++◌, length, drop, Some, IsTrue}
 use Rattle.voice_outside.specs.Disk.{Told}
 use Rattle.voice_model.specs.State.{State}
-use Rattle.voice_model.specs.Step.{Legal}
+use Rattle.voice_model.specs.Heard.{LegalOn}
 use Rattle.voice_model.specs.Image.{opened_from}
 use Rattle.voice_model.specs.declared.calls.Call.{Call}
 use Rattle.voice_model.specs.declared.calls.Reply.{Reply}
@@ -47,9 +47,9 @@ module _ {D : Type 0} where
   pub record IsOpenedAs (told : D → Told) (s : Hall (Standing D) (Born D)) (first : State) : Type 0 where
     pub opened : IsTrue (told (store_of s).origin).honest → opened_from (told (store_of s).origin).bytes ≡ Some first
 
-  -- the history is legal from what the server's disk was opened as
+  -- the history is legal from what the server's disk was opened as: on an honest disk all of it, on every other but for the talk and peaks that were read off the disk
   abbrev pub IsLegalFrom : (D → Told) → Hall (Standing D) (Born D) → List Entry → Type 0
-  IsLegalFrom told s history = (first : State) × IsOpenedAs told s first × Legal first (tapes_of s) history
+  IsLegalFrom told s history = (first : State) × IsOpenedAs told s first × LegalOn (told (store_of s).origin).honest first (tapes_of s) history
 
   -- the history that the server is closed with: what each pass has seen begins it, what each caller did is all that it has of the caller since the server was made, and all else are landings
   pub record IsClosed (s : Hall (Standing D) (Born D)) (passes : List (Pass (Standing D) (Born D))) (history : List Entry) : Type 0 where

@@ -63,7 +63,7 @@ impl<D: Disk> Hall<Standing<D>> {
         ensures pass { IsPassOf self.now pass.new }
         ensures caller { pass.new.caller ≡ pass.old.caller }
         ensures seen { Begins (seen pass.old) (seen pass.new) }
-        // What the pass has seen is legal from the disk that was opened.
+        // What the pass has seen is legal from the disk that was opened: on an honest disk all of it, on every other but for the talk and peaks that were read off the disk.
         ensures legal { IsLegalFrom D.told self.now (seen pass.new) }
         ensures ok { IfOk result (λ reply. AddsEntry call reply pass.old pass.new) }
         ensures err { OnErr result (mine pass.new ≡ mine pass.old) }

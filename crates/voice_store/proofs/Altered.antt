@@ -191,9 +191,9 @@ module _ (first : State) (t0 : ℕ) (disk : Told) (s : Inside) (stood : Stood fi
 
     -- a call that alters nothing
     pub answers : (caller : ℕ) (reply again : Reply) → again ≡ reply → first_of (before_journal now (tapes_of s) call) ≡ None → effect_of now (tapes_of s) call ≡ None → reply_of now (tapes_of s) call ≡ reply
-        → Stays now (tapes_of s) caller call again
+        → Stays disk.honest now (tapes_of s) caller call again
     answers caller reply again same early nothing is =
-        nothing_stays now (tapes_of s) caller call again makes.built (nothing_lands now call was.in_state) makes.lanes
+        nothing_stays disk.honest now (tapes_of s) caller call again makes.built (nothing_lands now call was.in_state) makes.lanes
         (journal_last.late now (tapes_of s) call early ∙ ap (if_full now) nothing) nothing (is ∙ sym same)
 
     -- what it replies tells of no device fault

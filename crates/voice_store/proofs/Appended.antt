@@ -64,31 +64,34 @@ fits_behind s effect fits = ap (λ (b : Bool). committed_by b s effect) (le-leb 
 
 module _ (first : State) (t0 : ℕ) (old new : Told) (s s' : Inside) (b : Rebuilt) (next : NextChange) (c : Change) (effect : Effect Tagged) (caller : ℕ) (call : Call) (reply : Reply)
     (tr : Trying first t0 old s b next c effect caller call reply) (later : old.calls ≤ new.calls) (sizes : new.size ≡ old.size)
-    (honest : IsTrue new.honest → IsTrue old.honest) (moments : IsTrue old.honest → IsLater old new) where
+    (alike : new.honest ≡ old.honest) (moments : IsTrue old.honest → IsLater old new) where
   abbrev end : State
   end = last_of first s
 
+  honest : IsTrue new.honest → IsTrue old.honest
+  honest h = subst (λ (x : Bool). IsTrue x) alike h
+
   abbrev pub entry_done : Entry
-  entry_done = said first t0 old new s s' b next c effect caller call reply tr later sizes reply
+  entry_done = said first t0 old new s s' b next c effect caller call reply tr later sizes alike reply
 
   abbrev pub entry_failed : Entry
-  entry_failed = said first t0 old new s s' b next c effect caller call reply tr later sizes (replies.No why.DiskFault)
+  entry_failed = said first t0 old new s s' b next c effect caller call reply tr later sizes alike (replies.No why.DiskFault)
 
   abbrev pub entry_waits : Entry
-  entry_waits = said first t0 old new s s' b next c effect caller call reply tr later sizes (replies.No why.InDoubt)
+  entry_waits = said first t0 old new s s' b next c effect caller call reply tr later sizes alike (replies.No why.InDoubt)
 
   -- ---- it failed before it counted, in whatever way it went
 
   stays_durable : KeepsDurable end (state_after end (tapes_of s) entry_failed)
   stays_durable =
-      let is = next_failed first t0 old new s s' b next c effect caller call reply tr later sizes in
+      let is = next_failed first t0 old new s s' b next c effect caller call reply tr later sizes alike in
       record { kept = ap (λ (t : State). t.kept) is; doubt = ap (λ (t : State). t.doubt) is; form = ap (λ (t : State). t.form) is; left = ap (λ (t : State). t.left) is }
 
   pub failed_stood : s'.tapes ≡ s.tapes → s'.history.items ≡ s.history.items ++ entry_failed ∷ []
       → s'.journal.shape ≡ s.journal.shape → s'.journal.seat ≡ s.journal.seat → s'.journal.doubt ≡ None → s'.doubt ≡ None → Rebuilds s'.parts b
       → FailuresCarry old new → (IsTrue old.honest → Undoes s.journal s'.journal old new) → Stood first t0 new s'
   failed_stood tapes items shape seat sure none tables carry undoes =
-      stood_failed first t0 old new s s' b next c effect caller call reply tr later sizes tapes items shape seat sure none tables
+      stood_failed first t0 old new s s' b next c effect caller call reply tr later sizes alike tapes items shape seat sure none tables
       (λ h. let h' = honest h in
       carry.before first (tapes_of s) t0 s.journal s'.journal b b s.history.items entry_failed (moments h') (tr.upright.held h') tr.may.sure (undoes h') refl stays_durable)
 
@@ -126,7 +129,7 @@ module _ (first : State) (t0 : ℕ) (old new : Told) (s s' : Inside) (b : Rebuil
 
     committed_then : IsCommitted end effect end.form (state_after end (tapes_of s) entry_done)
     committed_then =
-        let is = next_done first t0 old new s s' b next c effect caller call reply tr later sizes ∙ is_then in
+        let is = next_done first t0 old new s s' b next c effect caller call reply tr later sizes alike ∙ is_then in
         record { kept = ap (λ (t : State). t.kept) is; doubt = ap (λ (t : State). t.doubt) is ∙ tr.may.sure; form = ap (λ (t : State). t.form) is }
 
     pub appended_stood : s'.tapes ≡ s.tapes → s'.history.items ≡ s.history.items ++ entry_done ∷ []
@@ -135,13 +138,13 @@ module _ (first : State) (t0 : ℕ) (old new : Told) (s s' : Inside) (b : Rebuil
         → AppendsCarry old new → (IsTrue old.honest → Does (λ r. with_payload r payload) s.journal s'.journal old new × StaysWithin (λ r. with_payload r payload) s.journal old new)
         → Stood first t0 new s'
     appended_stood tapes items shape seat sure none tables carry does =
-        stood_done first t0 old new s s' b next c effect caller call reply tr later sizes (acted b c) (Record (length payload)) tapes items shape seat sure none tables fills_then seated_then
+        stood_done first t0 old new s s' b next c effect caller call reply tr later sizes alike (acted b c) (Record (length payload)) tapes items shape seat sure none tables fills_then seated_then
         (λ h. let h' = honest h in let d = does h' in
         carry.ok first (tapes_of s) t0 s.journal s'.journal b b s.history.items effect payload c entry_done (moments h') (tr.upright.held h') tr.may.sure (change h') d.0 d.1 refl committed_then)
 
     waits_then : IsInDoubt end effect (state_after end (tapes_of s) entry_waits)
     waits_then =
-        let is = next_waits first t0 old new s s' b next c effect caller call reply tr later sizes in
+        let is = next_waits first t0 old new s s' b next c effect caller call reply tr later sizes alike in
         record { kept = ap (λ (t : State). t.kept) is; doubt = ap (λ (t : State). t.doubt) is; form = ap (λ (t : State). t.form) is; left = ap (λ (t : State). t.left) is }
 
     -- the tables once it lands
@@ -154,7 +157,7 @@ module _ (first : State) (t0 : ℕ) (old new : Told) (s s' : Inside) (b : Rebuil
         → AppendsCarry old new → (IsTrue old.honest → Doubts (λ r. with_payload r payload) s.journal s'.journal old new × StaysWithin (λ r. with_payload r payload) s.journal old new)
         → Stood first t0 new s'
     append_waits doubted same form tapes items shape seat unsure some parts carry doubts =
-        stood_waits first t0 old new s s' b next c effect caller call reply tr later sizes (acted b c) (Record (length payload)) doubted same tapes items shape seat unsure some parts
+        stood_waits first t0 old new s s' b next c effect caller call reply tr later sizes alike (acted b c) (Record (length payload)) doubted same tapes items shape seat unsure some parts
         (λ p shows. subst (λ (f : ℕ). Rebuilds (in_form f p) (acted b c)) (sym form) (in_form_then p shows))
         fills_then
         seated_then

@@ -1,16 +1,18 @@
 -- A history with one entry more.
-use Rattle.std.proofs.Common.{◌≡◌, ◌⊎◌, inl, inr, ℕ, ◌≤◌, List, [], ◌∷◌, ◌++◌, IsTrue, sym, ◌∙◌, ap, subst, arith}
+use Rattle.std.proofs.Common.{◌≡◌, ◌⊎◌, inl, inr, ℕ, ◌≤◌, Bool, List, [], ◌∷◌, ◌++◌, IsTrue, sym, ◌∙◌, ap, subst, arith}
 use Rattle.std.specs.Prelude.{Vec}
 use Rattle.std.specs.declared.alloc.Global.{Global}
 use Rattle.voice_outside.specs.Disk.{Told}
 use Rattle.voice_units.specs.Spots.{Spot}
 use Rattle.voice_model.specs.Samples.{Tagged}
 use Rattle.voice_model.specs.State.{State}
-use Rattle.voice_model.specs.Step.{Legal, IsAnswer, state_after, after}
+use Rattle.voice_model.specs.Step.{state_after, after}
+use Rattle.voice_model.specs.Heard.{IsAnswerOn, LegalOn}
 use Rattle.voice_model.specs.Replay.{Rebuilt}
 use Rattle.voice_model.specs.Valid.{IsState}
 use Rattle.voice_model.specs.declared.calls.Entry.{Entry}
-use Rattle.voice_model.proofs.Determined.{after-append, legal-append}
+use Rattle.voice_model.proofs.Determined.{after-append}
+use Rattle.voice_model.proofs.Heard.{legal_on-append, legal_on-one}
 use Rattle.crash_laws.specs.Standing.{IsHeld, IsHonest}
 use Rattle.crash_laws.specs.Calls.{KeepsDurable}
 use Rattle.crash_laws.specs.Laws.{EntriesCount}
@@ -20,8 +22,8 @@ use Rattle.voice_store.specs.Stood.{last_state, tapes_of, last_of, Fills, Brings
 pub after_one : (s : State) (tapes : List (List ℕ)) (es : List Entry) (e : Entry) → after s tapes (es ++ e ∷ []) ≡ state_after (after s tapes es) tapes e
 after_one s tapes es e = after-append s tapes es (e ∷ [])
 
-pub legal_one : (s : State) (tapes : List (List ℕ)) (es : List Entry) (e : Entry) → Legal s tapes es → IsAnswer (after s tapes es) tapes e → Legal s tapes (es ++ e ∷ [])
-legal_one s tapes es e legal answer = legal-append s tapes es (e ∷ []) legal (answer, tt)
+pub legal_one : (honest : Bool) (s : State) (tapes : List (List ℕ)) (es : List Entry) (e : Entry) → LegalOn honest s tapes es → IsAnswerOn honest (after s tapes es) tapes e → LegalOn honest s tapes (es ++ e ∷ [])
+legal_one honest s tapes es e legal answer = legal_on-append honest s tapes es (e ∷ []) legal (legal_on-one honest (after s tapes es) tapes e answer)
 
 pub acks_one : (low : ℕ) (es : List Entry) (e : Entry) (high : ℕ) → AcksRise low es high → e.ack ≡ high → AcksRise low (es ++ e ∷ []) high
 acks_one low [] e high rise is = (omega (arith, rise, is), omega (arith, is))
@@ -41,7 +43,7 @@ last_stays first s s' e tapes items stays =
     ap (λ t. after first (tapes_of (record s { tapes = t })) s'.history.items) tapes ∙ ap (λ l. after first (tapes_of s) l) items ∙ after_one first (tapes_of s) s.history.items e ∙ stays
 
 module _ (first : State) (t0 : ℕ) (disk : Told) (s : Inside) (items : List Entry) (e : Entry) (is : items ≡ s.history.items ++ e ∷ []) (now : e.ack ≡ disk.calls)
-    (answers : IsAnswer (last_of first s) (tapes_of s) e) (stays : state_after (last_of first s) (tapes_of s) e ≡ last_of first s)
+    (answers : IsAnswerOn disk.honest (last_of first s) (tapes_of s) e) (stays : state_after (last_of first s) (tapes_of s) e ≡ last_of first s)
     (honest : IsTrue disk.honest → IsHonest disk) (counts : EntriesCount disk) where
   abbrev tapes : List (List ℕ)
   tapes = tapes_of s
@@ -54,14 +56,14 @@ module _ (first : State) (t0 : ℕ) (disk : Told) (s : Inside) (items : List Ent
 
   -- what holds of the history with the entry, whatever else is kept
   pub record Noted (fill : Spot → Tagged) (b after' : Rebuilt) : Type 0 where
-    pub legal : Legal first tapes items
+    pub legal : LegalOn disk.honest first tapes items
     pub last : last_state first tapes items ≡ last_of first s
     pub acks : AcksRise t0 items disk.calls
     pub held : IsTrue disk.honest → IsHeld first tapes t0 s.journal disk b after' items
 
   pub noted : (fill : Spot → Tagged) (b after' : Rebuilt) → Upright first t0 disk s fill b after' → Noted fill b after'
   noted fill b after' up = record {
-    legal = subst (λ l. Legal first tapes l) (sym is) (legal_one first tapes s.history.items e up.legal answers);
+    legal = subst (λ l. LegalOn disk.honest first tapes l) (sym is) (legal_one disk.honest first tapes s.history.items e up.legal answers);
     last = ap (λ l. last_state first tapes l) is ∙ same;
     acks = subst (λ l. AcksRise t0 l disk.calls) (sym is) (acks_one t0 s.history.items e disk.calls up.acks now);
     held = λ h. subst (λ l. IsHeld first tapes t0 s.journal disk b after' l) (sym is)
@@ -71,7 +73,7 @@ module _ (first : State) (t0 : ℕ) (disk : Told) (s : Inside) (items : List Ent
 -- ---- a store with the entry
 
 module _ (first : State) (t0 : ℕ) (disk : Told) (s : Inside) (history : Vec Entry Global) (e : Entry) (is : history.items ≡ s.history.items ++ e ∷ []) (now : e.ack ≡ disk.calls)
-    (answers : IsAnswer (last_of first s) (tapes_of s) e) (stays : state_after (last_of first s) (tapes_of s) e ≡ last_of first s)
+    (answers : IsAnswerOn disk.honest (last_of first s) (tapes_of s) e) (stays : state_after (last_of first s) (tapes_of s) e ≡ last_of first s)
     (honest : IsTrue disk.honest → IsHonest disk) (counts : EntriesCount disk) where
   abbrev entered : Inside
   entered = record s { history = history }

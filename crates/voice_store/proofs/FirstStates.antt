@@ -14,11 +14,13 @@ use Rattle.voice_journal.specs.Stands.{IsAt}
 use Rattle.voice_journal.specs.declared.lists.Placed.{Placed}
 use Rattle.voice_journal.specs.declared.opening.Opened.{Opened}
 use Rattle.voice_model.specs.State.{State, opened, quiet_lane}
-use Rattle.voice_model.specs.Step.{Legal, after}
+use Rattle.voice_model.specs.Step.{after}
+use Rattle.voice_model.specs.Heard.{LegalOn}
 use Rattle.voice_model.specs.Replay.{Rebuilt, nothing_rebuilt, filled, recovered}
 use Rattle.voice_model.specs.Image.{Replayed, Reading, replayed, reading, opened_from}
 use Rattle.voice_model.specs.Valid.{IsState}
 use Rattle.voice_model.specs.declared.calls.Entry.{Entry}
+use Rattle.voice_model.proofs.Heard.{legal_on-none}
 use Rattle.recovery.specs.Shown.{Rebuilds, numbered}
 use Rattle.journal_readings.specs.Readings.{payloads_of, Rebuild}
 use Rattle.journal_readings.proofs.Openings.{numbered_all, numbered_bad}
@@ -138,7 +140,7 @@ module _ (t0 : ℕ) (bytes : List ℕ) (disk : Told) (s : Inside) (b : Rebuilt) 
     b = b;
     after = b;
     upright = record {
-      legal = subst (λ (l : List Entry). Legal begin (tapes_of s) l) (sym items) tt;
+      legal = subst (λ (l : List Entry). LegalOn disk.honest begin (tapes_of s) l) (sym items) (legal_on-none disk.honest begin (tapes_of s));
       valid = of_last (λ t. IsState t) (first_valid bytes s.journal.shape ps b (s.journal.shape.area - 1 - s.journal.seat.gate) s.journal.seat.epoch rebuilds (omega (arith, from, within)));
       quiet = of_last (λ t. AreQuiet t.lanes) (ap (λ (n : ℕ). replicate n quiet_lane) (sym (length-replicate begin.kept.shape.lanes quiet_lane)));
       fills = of_last (λ t. Fills (filled bytes b) b t) (record { spots = λ x. refl; kept = refl; form = refl });

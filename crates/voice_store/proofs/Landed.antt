@@ -7,7 +7,8 @@ use Rattle.voice_outside.specs.Disk.{Told}
 use Rattle.voice_outside.specs.Counters.{HasRisen}
 use Rattle.voice_model.specs.State.{State}
 use Rattle.voice_model.specs.Changes.{is_changing}
-use Rattle.voice_model.specs.Step.{landing_failed, after, Legal}
+use Rattle.voice_model.specs.Step.{landing_failed, after}
+use Rattle.voice_model.specs.Heard.{LegalOn}
 use Rattle.voice_model.specs.Valid.{IsState}
 use Rattle.crash_laws.specs.Standing.{IsHeld}
 use Rattle.voice_model.specs.declared.calls.Call.{Call}
@@ -69,19 +70,21 @@ on_error P Q f (Ok x) h = h
 on_error P Q f (Err e) h = f h
 
 -- a landing takes two of the calls
-pub most_of : (block : ℕ) (call : Call) → IsTrue (is_built call) → IsTrue (is_changing call) → (n : ℕ) × (most_calls block call ≡ n + 2)
-most_of block (calls.Record take) built changing = (6 + take.len, omega arith)
-most_of block (calls.Concat ids) built changing = (6, refl)
-most_of block (calls.Sub id start len) built changing = (6, refl)
-most_of block (calls.Replace id start len with) built changing = (6, refl)
-most_of block (calls.Retain class key id note) built changing = (6, refl)
-most_of block (calls.Forget class key) built changing = (6, refl)
-most_of block (calls.Census keys) built changing = (6, refl)
-most_of block (calls.Advance moment) built changing = (6, refl)
-most_of block (calls.Sweep limit) built changing = (6, refl)
-most_of block (calls.Length id) built changing = absurd (wrong changing)
-most_of block (calls.Lookup class key) built changing = absurd (wrong changing)
-most_of block _ built changing = absurd (wrong built)
+pub most_of : (s : State) (call : Call) → IsTrue (is_built call) → IsTrue (is_changing call) → (n : ℕ) × (most_calls s call ≡ n + 2)
+most_of s (calls.Record take) built changing = (6 + take.len, omega arith)
+most_of s (calls.Concat ids) built changing = (6, refl)
+most_of s (calls.Sub id start len) built changing = (6, refl)
+most_of s (calls.Replace id start len with) built changing = (6, refl)
+most_of s (calls.Retain class key id note) built changing = (6, refl)
+most_of s (calls.Forget class key) built changing = (6, refl)
+most_of s (calls.Census keys) built changing = (6, refl)
+most_of s (calls.Advance moment) built changing = (6, refl)
+most_of s (calls.Sweep limit) built changing = (6, refl)
+most_of s (calls.Length id) built changing = absurd (wrong changing)
+most_of s (calls.Lookup class key) built changing = absurd (wrong changing)
+most_of s (calls.Describe id) built changing = absurd (wrong changing)
+most_of s (calls.Levels id) built changing = absurd (wrong changing)
+most_of s _ built changing = absurd (wrong built)
 
 -- ---- room for more entries
 
@@ -98,7 +101,7 @@ module _ (first : State) (t0 : ℕ) (disk : Told) (s : Inside) (history : Vec En
     b = stood.b;
     after = stood.after;
     upright = record {
-      legal = subst (λ l. Legal first (tapes_of s) l) (sym is) up.legal;
+      legal = subst (λ l. LegalOn disk.honest first (tapes_of s) l) (sym is) up.legal;
       valid = subst (λ (t : State). IsState t) (sym last) up.valid;
       quiet = subst (λ (t : State). AreQuiet t.lanes) (sym last) up.quiet;
       fills = subst (λ (t : State). Fills stood.fill stood.b t) (sym last) up.fills;

@@ -27,3 +27,4 @@ pub mod Switched
 pub mod Taking
 pub mod Tried
 pub mod Written
+pub mod Heard

@@ -1,11 +1,12 @@
 -- A store with one entry more, and one whose disk went on.
-use Rattle.std.proofs.Common.{◌≡◌, ◌⊎◌, ℕ, ◌≤◌, List, [], ◌∷◌, ◌++◌, IsTrue, sym, ◌∙◌, ap, subst, arith}
+use Rattle.std.proofs.Common.{◌≡◌, ◌⊎◌, ℕ, ◌≤◌, Bool, List, [], ◌∷◌, ◌++◌, IsTrue, sym, ◌∙◌, ap, subst, arith}
 use Rattle.voice_outside.specs.Disk.{Told}
 use Rattle.voice_units.specs.Spots.{Spot}
 use Rattle.voice_journal.specs.Readings.{extent}
 use Rattle.voice_model.specs.Samples.{Tagged}
 use Rattle.voice_model.specs.State.{State}
-use Rattle.voice_model.specs.Step.{Legal, IsAnswer, state_after, after}
+use Rattle.voice_model.specs.Step.{state_after, after}
+use Rattle.voice_model.specs.Heard.{IsAnswerOn, LegalOn}
 use Rattle.voice_model.specs.Replay.{Rebuilt}
 use Rattle.voice_model.specs.Valid.{IsState}
 use Rattle.voice_model.specs.declared.calls.Entry.{Entry}
@@ -13,6 +14,10 @@ use Rattle.crash_laws.specs.Standing.{IsHeld}
 use Rattle.voice_store.specs.declared.inside.Inside.{Inside}
 use Rattle.voice_store.specs.Stood.{tapes_of, last_of, Fills, IsSeated, AcksRise, AreQuiet, Upright, IsSure, IsUnsure, Stood}
 use Rattle.voice_store.proofs.Entries.{after_one, legal_one, acks_one, acks_later}
+
+-- a history that is legal on a disk is on one as honest
+pub as_honest : (first : State) (old new : Told) (s : Inside) → new.honest ≡ old.honest → LegalOn old.honest first (tapes_of s) s.history.items → LegalOn new.honest first (tapes_of s) s.history.items
+as_honest first old new s alike legal = subst (λ (h : Bool). LegalOn h first (tapes_of s) s.history.items) (sym alike) legal
 
 module _ (first : State) (t0 : ℕ) (old new : Told) (s s' : Inside) (e : Entry) (tapes : s'.tapes ≡ s.tapes) (items : s'.history.items ≡ s.history.items ++ e ∷ []) where
   abbrev last : State
@@ -33,17 +38,17 @@ module _ (first : State) (t0 : ℕ) (old new : Told) (s s' : Inside) (e : Entry)
   here : (P : List (List ℕ) → List Entry → Type 0) → P (tapes_of s) (s.history.items ++ e ∷ []) → P (tapes_of s') s'.history.items
   here P p = subst (λ (ts : List (List ℕ)). P ts s'.history.items) (sym same_tapes) (subst (λ (l : List Entry). P (tapes_of s) l) (sym items) p)
 
-  pub stood_pushed : (fill fill' : Spot → Tagged) (b b' after' after'' : Rebuilt) → Upright first t0 old s fill b after' → old.calls ≤ new.calls → e.ack ≡ new.calls
-      → IsAnswer last (tapes_of s) e → IsState next → AreQuiet next.lanes → Fills fill' b' next → IsSeated s'.journal next
+  pub stood_pushed : (fill fill' : Spot → Tagged) (b b' after' after'' : Rebuilt) → Upright first t0 old s fill b after' → old.calls ≤ new.calls → new.honest ≡ old.honest → e.ack ≡ new.calls
+      → IsAnswerOn new.honest last (tapes_of s) e → IsState next → AreQuiet next.lanes → Fills fill' b' next → IsSeated s'.journal next
       → (IsTrue new.honest → IsHeld first (tapes_of s) t0 s'.journal new b' after'' (s.history.items ++ e ∷ []))
       → IsSure s' b' after'' next ⊎ IsUnsure s' b' after'' next → extent s'.journal.shape ≤ new.size
       → Stood first t0 new s'
-  stood_pushed fill fill' b b' after' after'' up later now answers valid quiet fills seated held tables size = record {
+  stood_pushed fill fill' b b' after' after'' up later alike now answers valid quiet fills seated held tables size = record {
     fill = fill';
     b = b';
     after = after'';
     upright = record {
-      legal = here (λ ts l. Legal first ts l) (legal_one first (tapes_of s) s.history.items e up.legal answers);
+      legal = here (λ ts l. LegalOn new.honest first ts l) (legal_one new.honest first (tapes_of s) s.history.items e (as_honest first old new s alike up.legal) answers);
       valid = subst (λ (t : State). IsState t) (sym last_next) valid;
       quiet = subst (λ (t : State). AreQuiet t.lanes) (sym last_next) quiet;
       fills = subst (λ (t : State). Fills fill' b' t) (sym last_next) fills;
@@ -56,14 +61,14 @@ module _ (first : State) (t0 : ℕ) (old new : Told) (s s' : Inside) (e : Entry)
   }
 
 -- a store whose disk went on, with nothing new
-pub stood_went_on : (first : State) (t0 : ℕ) (old new : Told) (s : Inside) (stood : Stood first t0 old s) → old.calls ≤ new.calls → new.size ≡ old.size
+pub stood_went_on : (first : State) (t0 : ℕ) (old new : Told) (s : Inside) (stood : Stood first t0 old s) → old.calls ≤ new.calls → new.size ≡ old.size → new.honest ≡ old.honest
     → (IsTrue new.honest → IsHeld first (tapes_of s) t0 s.journal new stood.b stood.after s.history.items) → Stood first t0 new s
-stood_went_on first t0 old new s stood later size held = record {
+stood_went_on first t0 old new s stood later size alike held = record {
   fill = stood.fill;
   b = stood.b;
   after = stood.after;
   upright = record {
-    legal = stood.upright.legal;
+    legal = as_honest first old new s alike stood.upright.legal;
     valid = stood.upright.valid;
     quiet = stood.upright.quiet;
     fills = stood.upright.fills;

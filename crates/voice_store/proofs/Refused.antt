@@ -1,5 +1,5 @@
 -- Calls that leave the state as it was.
-use Rattle.std.proofs.Common.{◌≡◌, ◌⊎◌, inl, inr, ℕ, List, [], ◌∷◌, map, true, false, Option, Some, None, IsTrue, refl, sym, ◌∙◌, ap, subst}
+use Rattle.std.proofs.Common.{◌≡◌, ◌⊎◌, inl, inr, ℕ, List, [], ◌∷◌, map, Bool, true, false, Option, Some, None, IsTrue, refl, sym, ◌∙◌, ap, subst}
 use Rattle.voice_units.specs.Spots.{Spot}
 use Rattle.voice_model.specs.Samples.{Tagged, spot_of}
 use Rattle.voice_model.specs.State.{State, Live, Durable, row_at}
@@ -14,6 +14,7 @@ use Rattle.voice_model.specs.declared.calls.Reply.TheVariants as replies
 use Rattle.voice_model.specs.declared.calls.Why.{Why}
 use Rattle.voice_model.specs.declared.calls.Why.TheVariants as why
 use Rattle.voice_model.proofs.Answers.{answered_outcome}
+use Rattle.voice_model.proofs.Heard.{reply_on}
 use Rattle.recovery.specs.Shown.{Shows}
 use Rattle.recovery.specs.declared.parts.Parts.{Parts}
 use Rattle.edits.specs.Shown.{ShowsState, IsLength}
@@ -36,6 +37,8 @@ is_reply s tapes caller (calls.Concat ids) reply built may = (tt, may)
 is_reply s tapes caller (calls.Sub id start len) reply built may = (tt, may)
 is_reply s tapes caller (calls.Replace id start len with) reply built may = (tt, may)
 is_reply s tapes caller (calls.Length id) reply built may = (tt, may)
+is_reply s tapes caller (calls.Describe id) reply built may = (tt, may)
+is_reply s tapes caller (calls.Levels id) reply built may = (tt, may)
 is_reply s tapes caller (calls.Retain class key id note) reply built may = (tt, may)
 is_reply s tapes caller (calls.Forget class key) reply built may = (tt, may)
 is_reply s tapes caller (calls.Lookup class key) reply built may = (tt, may)
@@ -50,6 +53,8 @@ stays_home s (calls.Concat ids) built = refl
 stays_home s (calls.Sub id start len) built = refl
 stays_home s (calls.Replace id start len with) built = refl
 stays_home s (calls.Length id) built = refl
+stays_home s (calls.Describe id) built = refl
+stays_home s (calls.Levels id) built = refl
 stays_home s (calls.Retain class key id note) built = refl
 stays_home s (calls.Forget class key) built = refl
 stays_home s (calls.Lookup class key) built = refl
@@ -64,6 +69,8 @@ answered_so s tapes (calls.Concat ids) built = refl
 answered_so s tapes (calls.Sub id start len) built = refl
 answered_so s tapes (calls.Replace id start len with) built = refl
 answered_so s tapes (calls.Length id) built = refl
+answered_so s tapes (calls.Describe id) built = refl
+answered_so s tapes (calls.Levels id) built = refl
 answered_so s tapes (calls.Retain class key id note) built = refl
 answered_so s tapes (calls.Forget class key) built = refl
 answered_so s tapes (calls.Lookup class key) built = refl
@@ -85,9 +92,9 @@ module _ (s : State) (tapes : List (List ℕ)) (caller : ℕ) (call : Call) (bui
   pub after_answered : (ack : ℕ) → state_after s tapes (entry_of caller call (reply_by s tapes call o) ack) ≡ after_reply s tapes call o
   after_answered ack = ap (λ x. state_by x s tapes call) outcome ∙ answered_so s tapes call built ∙ ap (λ x. after_reply s tapes call x) is
 
-pub refused_stays : (s : State) (tapes : List (List ℕ)) (caller : ℕ) (call : Call) (reason : Why) → IsTrue (is_built call) → IsTrue (nothing_to_land s call) → refusal s tapes call ≡ Some reason → Stays s tapes caller call (replies.No reason)
-refused_stays s tapes caller call reason built free is = record {
-  answers = may_answer s tapes caller call built free (Some reason) is;
+pub refused_stays : (honest : Bool) (s : State) (tapes : List (List ℕ)) (caller : ℕ) (call : Call) (reason : Why) → IsTrue (is_built call) → IsTrue (nothing_to_land s call) → refusal s tapes call ≡ Some reason → Stays honest s tapes caller call (replies.No reason)
+refused_stays honest s tapes caller call reason built free is = record {
+  answers = reply_on honest s tapes caller call (replies.No reason) (may_answer s tapes caller call built free (Some reason) is);
   stays = λ ack. after_answered s tapes caller call built free (Some reason) is ack ∙ stays_home s call built;
 }
 
@@ -98,28 +105,28 @@ refused_plain s tapes call reason is = λ fault.
 
 -- ---- a landing that failed
 
-pub unlanded_stays : (s : State) (tapes : List (List ℕ)) (caller : ℕ) (call : Call) → IsTrue (is_built call) → IsTrue (landing_failed s call) → Stays s tapes caller call (replies.No why.DiskFault)
-unlanded_stays s tapes caller call built failed = record {
-  answers = is_reply s tapes caller call (replies.No why.DiskFault) built (inl failed);
+pub unlanded_stays : (honest : Bool) (s : State) (tapes : List (List ℕ)) (caller : ℕ) (call : Call) → IsTrue (is_built call) → IsTrue (landing_failed s call) → Stays honest s tapes caller call (replies.No why.DiskFault)
+unlanded_stays honest s tapes caller call built failed = record {
+  answers = reply_on honest s tapes caller call (replies.No why.DiskFault) (is_reply s tapes caller call (replies.No why.DiskFault) built (inl failed));
   stays = λ ack. stays_home s call built;
 }
 
 -- ---- a length
 
-pub length_stays : (s : State) (tapes : List (List ℕ)) (caller id n : ℕ) → IsLength (Some n) s tapes id → Stays s tapes caller (calls.Length id) (replies.Number n)
-length_stays s tapes caller id n is =
-    subst (λ r. Stays s tapes caller (calls.Length id) r) is.1 (record {
-      answers = may_answer s tapes caller (calls.Length id) refl refl None is.0;
+pub length_stays : (honest : Bool) (s : State) (tapes : List (List ℕ)) (caller id n : ℕ) → IsLength (Some n) s tapes id → Stays honest s tapes caller (calls.Length id) (replies.Number n)
+length_stays honest s tapes caller id n is =
+    subst (λ r. Stays honest s tapes caller (calls.Length id) r) is.1 (record {
+      answers = reply_on honest s tapes caller (calls.Length id) (reply_of s tapes (calls.Length id)) (may_answer s tapes caller (calls.Length id) refl refl None is.0);
       stays = λ ack. after_answered s tapes caller (calls.Length id) refl refl None is.0 ack;
     })
 
 -- ---- an interest
 
-pub found_stays : (s : State) (tapes : List (List ℕ)) (caller : ℕ) (class : Class) (key : List ℕ) (rope : ℕ) (note : List ℕ) → HasInterest s class key rope note → Stays s tapes caller (calls.Lookup class key) (replies.Found rope note)
-found_stays s tapes caller class key rope note has =
+pub found_stays : (honest : Bool) (s : State) (tapes : List (List ℕ)) (caller : ℕ) (class : Class) (key : List ℕ) (rope : ℕ) (note : List ℕ) → HasInterest s class key rope note → Stays honest s tapes caller (calls.Lookup class key) (replies.Found rope note)
+found_stays honest s tapes caller class key rope note has =
     let free : refusal s tapes (calls.Lookup class key) ≡ None = ap (λ o. first_of (if_missing o ∷ [])) has.1 in
-    subst (λ r. Stays s tapes caller (calls.Lookup class key) r) (ap found has.1 ∙ ap (λ n. replies.Found n has.0.note) has.2 ∙ ap (replies.Found rope) has.3) (record {
-      answers = may_answer s tapes caller (calls.Lookup class key) refl refl None free;
+    subst (λ r. Stays honest s tapes caller (calls.Lookup class key) r) (ap found has.1 ∙ ap (λ n. replies.Found n has.0.note) has.2 ∙ ap (replies.Found rope) has.3) (record {
+      answers = reply_on honest s tapes caller (calls.Lookup class key) (reply_of s tapes (calls.Lookup class key)) (may_answer s tapes caller (calls.Lookup class key) refl refl None free);
       stays = λ ack. after_answered s tapes caller (calls.Lookup class key) refl refl None free ack;
     })
 
@@ -128,11 +135,11 @@ missing_refused s tapes class key none = ap (λ o. first_of (if_missing o ∷ []
 
 -- ---- a call that alters nothing
 
-pub nothing_stays : (s : State) (tapes : List (List ℕ)) (caller : ℕ) (call : Call) (reply : Reply) → IsTrue (is_built call) → IsTrue (nothing_to_land s call) → on_lanes s tapes call ≡ s → refusal s tapes call ≡ None → effect_of s tapes call ≡ None → reply_of s tapes call ≡ reply
-    → Stays s tapes caller call reply
-nothing_stays s tapes caller call reply built free lanes unrefused none is =
-    subst (λ r. Stays s tapes caller call r) is (record {
-      answers = may_answer s tapes caller call built free None unrefused;
+pub nothing_stays : (honest : Bool) (s : State) (tapes : List (List ℕ)) (caller : ℕ) (call : Call) (reply : Reply) → IsTrue (is_built call) → IsTrue (nothing_to_land s call) → on_lanes s tapes call ≡ s → refusal s tapes call ≡ None → effect_of s tapes call ≡ None → reply_of s tapes call ≡ reply
+    → Stays honest s tapes caller call reply
+nothing_stays honest s tapes caller call reply built free lanes unrefused none is =
+    subst (λ r. Stays honest s tapes caller call r) is (record {
+      answers = reply_on honest s tapes caller call (reply_of s tapes call) (may_answer s tapes caller call built free None unrefused);
       stays = λ ack. after_answered s tapes caller call built free None unrefused ack ∙ ap (λ t. with_change t s.form (effect_of s tapes call)) lanes ∙ ap (with_change s s.form) none;
     })
 

@@ -1,5 +1,5 @@
 -- What was in doubt has landed.
-use Rattle.std.proofs.Common.{rules, ◌≡◌, ◌⊎◌, inl, inr, ℕ, ◌≤◌, List, [], ◌∷◌, ◌++◌, true, false, Option, Some, None, is_some, IsTrue, refl, sym, ◌∙◌, ap, subst, arith}
+use Rattle.std.proofs.Common.{rules, ◌≡◌, ◌⊎◌, inl, inr, ℕ, ◌≤◌, List, [], ◌∷◌, ◌++◌, Bool, true, false, Option, Some, None, is_some, IsTrue, refl, sym, ◌∙◌, ap, subst, arith}
 use Rattle.std.specs.Prelude.{is_none}
 use Rattle.voice_outside.specs.Disk.{Told}
 use Rattle.voice_units.specs.declared.shapes.Shape.{Shape}
@@ -10,6 +10,7 @@ use Rattle.voice_model.specs.Samples.{Tagged}
 use Rattle.voice_model.specs.State.{State, Durable, LaneState, Pending}
 use Rattle.voice_model.specs.Step.{landed, after_landing, state_after}
 use Rattle.voice_model.specs.Replay.{Rebuilt, acted}
+use Rattle.voice_model.proofs.Heard.{answer_on}
 use Rattle.recovery.specs.Shown.{Rebuilds}
 use Rattle.recovery.specs.declared.parts.Parts.{Parts}
 use Rattle.next_changes.specs.Next.{IsNext}
@@ -63,9 +64,12 @@ abbrev pub landed_journal : JournalValue → Doubt → JournalValue
 landed_journal journal doubt = record journal { seat = landed_seat journal.seat doubt; doubt = None; is_closed = closed_after journal.is_closed doubt }
 
 module _ (first : State) (t0 : ℕ) (old new : Told) (s s' : Inside) (was : Stood first t0 old s) (unsure : IsUnsure s was.b was.after (last_of first s))
-    (later : old.calls ≤ new.calls) (sizes : new.size ≡ old.size) (honest : IsTrue new.honest → IsTrue old.honest) (moments : IsTrue old.honest → IsLater old new) (carry : LandingsCarry old new) where
+    (later : old.calls ≤ new.calls) (sizes : new.size ≡ old.size) (alike : new.honest ≡ old.honest) (moments : IsTrue old.honest → IsLater old new) (carry : LandingsCarry old new) where
   abbrev last : State
   last = last_of first s
+
+  honest : IsTrue new.honest → IsTrue old.honest
+  honest h = subst (λ (b : Bool). IsTrue b) alike h
 
   pub stood_landed : s'.tapes ≡ s.tapes → s'.history.items ≡ s.history.items ++ landing_at new.calls ∷ [] → s'.journal ≡ landed_journal s.journal unsure.doubt
       → s'.doubt ≡ None → s'.parts.form ≡ unsure.doubted.form → Rebuilds (in_form was.b.form s'.parts) (acted was.b unsure.change)
@@ -80,8 +84,8 @@ module _ (first : State) (t0 : ℕ) (old new : Told) (s s' : Inside) (was : Stoo
       let none : (landed last).doubt ≡ None = landed_doubt last last.doubt in
       let seated : IsSeated s'.journal (landed last) =
       subst (λ (j : JournalValue). IsSeated j (landed last)) (sym journal) (record { shape = lands.seated.shape; left = lands.seated.left; epoch = lands.seated.epoch }) in
-      stood_pushed first t0 old new s s' e tapes items was.fill lands.fill was.b was.after was.after was.after was.upright later refl
-      (refl, refl, subst (λ (o : Option Pending). IsTrue (is_some o)) (sym unsure.in_state) is_true)
+      stood_pushed first t0 old new s s' e tapes items was.fill lands.fill was.b was.after was.after was.after was.upright later alike refl
+      (answer_on new.honest last (tapes_of s) e (refl, refl, subst (λ (o : Option Pending). IsTrue (is_some o)) (sym unsure.in_state) is_true))
       lands.valid
       (subst (λ (l : List LaneState). stood.AreQuiet l) (sym (landed_lanes last last.doubt)) was.upright.quiet)
       lands.fills seated
@@ -93,7 +97,7 @@ module _ (first : State) (t0 : ℕ) (old new : Told) (s s' : Inside) (was : Stoo
   pub stood_not_landed : (journal : JournalValue) → journal ≡ s.journal → (IsTrue old.honest → StaysInDoubt s.journal journal old new × LandsWithin s.journal old new) → Stood first t0 new (record s { journal = journal })
   stood_not_landed journal same stays =
       subst (λ (j : JournalValue). Stood first t0 new (record s { journal = j })) (sym same)
-      (stood_went_on first t0 old new s was later sizes
+      (stood_went_on first t0 old new s was later sizes alike
       (λ h. let d = stays (honest h) in
       carry.failed first (tapes_of s) t0 s.journal s.journal was.b was.after s.history.items unsure.pending (moments (honest h)) (was.upright.held (honest h)) unsure.in_state
       (subst (λ (j : JournalValue). StaysInDoubt s.journal j old new) same d.0) d.1))

@@ -89,10 +89,13 @@ shown_read_back parts x end to shows kept places form valid placed used = record
 
 module _ (first : State) (t0 : ℕ) (old new : Told) (s s' : Inside) (b : Rebuilt) (next : NextChange) (c : Change) (effect : Effect Tagged) (caller : ℕ) (call : Call) (reply : Reply)
     (tr : Trying first t0 old s b next c effect caller call reply) (later : old.calls ≤ new.calls) (sizes : new.size ≡ old.size)
-    (honest : IsTrue new.honest → IsTrue old.honest) (moments : IsTrue old.honest → IsLater old new)
+    (alike : new.honest ≡ old.honest) (moments : IsTrue old.honest → IsLater old new)
     (base : Base) (is_base : IsBaseOf s.journal.shape (acted b c) base) (fits : FitsOther (last_of first s) effect) (room : framed_size base.payloads + 17 ≤ s.journal.shape.area) where
   abbrev last : State
   last = last_of first s
+
+  honest : IsTrue new.honest → IsTrue old.honest
+  honest h = subst (λ (x : Bool). IsTrue x) alike h
 
   abbrev x : Rebuilt
   x = acted b c
@@ -176,40 +179,40 @@ module _ (first : State) (t0 : ℕ) (old new : Told) (s s' : Inside) (b : Rebuil
   same_end : (other : Rebuilt) → IsReadBack base.form x other → other ≡ end
   same_end other back = replays.once (switched (formatted x.shape) (map spelling (base_of base.form x))) other end back.rebuilds (reached).1
 
-  committed_then : IsCommitted last effect base.form (state_after last (tapes_of s) (entry_done first t0 old new s s' b next c effect caller call reply tr later sizes honest moments))
+  committed_then : IsCommitted last effect base.form (state_after last (tapes_of s) (entry_done first t0 old new s s' b next c effect caller call reply tr later sizes alike moments))
   committed_then =
-      let is = next_done first t0 old new s s' b next c effect caller call reply tr later sizes ∙ is_then in
+      let is = next_done first t0 old new s s' b next c effect caller call reply tr later sizes alike ∙ is_then in
       record { kept = ap (λ (t : State). t.kept) is; doubt = ap (λ (t : State). t.doubt) is ∙ tr.may.sure; form = ap (λ (t : State). t.form) is ∙ sym to_form }
 
-  pub switched_stood : s'.tapes ≡ s.tapes → s'.history.items ≡ s.history.items ++ entry_done first t0 old new s s' b next c effect caller call reply tr later sizes honest moments ∷ []
+  pub switched_stood : s'.tapes ≡ s.tapes → s'.history.items ≡ s.history.items ++ entry_done first t0 old new s s' b next c effect caller call reply tr later sizes alike moments ∷ []
       → s'.journal.shape ≡ s.journal.shape → s'.journal.seat ≡ landed_seat s.journal.seat (Area gate) → s'.journal.doubt ≡ None → s'.doubt ≡ None
       → (parts : Parts) → Rebuilds parts x → s'.parts ≡ in_form base.form parts
       → SwitchesCarry old new → (IsTrue old.honest → Does (λ r. switched r base.payloads) s.journal s'.journal old new × StaysWithin (λ r. switched r base.payloads) s.journal old new)
       → Stood first t0 new s'
   switched_stood tapes items shape seat sure none parts tables parts_are carry does =
-      stood_done first t0 old new s s' b next c effect caller call reply tr later sizes end (Area gate) tapes items shape seat sure none
+      stood_done first t0 old new s s' b next c effect caller call reply tr later sizes alike end (Area gate) tapes items shape seat sure none
       (subst (λ (p : Parts). Rebuilds p end) (sym parts_are) (tables_then parts tables)) fills_then seated_then
       (λ h. let h' = honest h in let d = does h' in
-      let e = entry_done first t0 old new s s' b next c effect caller call reply tr later sizes honest moments in
+      let e = entry_done first t0 old new s s' b next c effect caller call reply tr later sizes alike moments in
       let got = carry.ok first (tapes_of s) t0 s.journal s'.journal b b s.history.items effect base.form base.payloads x e (moments h') (tr.upright.held h') tr.may.sure (spells h') d.0 d.1 refl committed_then in
       subst (λ (r : Rebuilt). IsHeld first (tapes_of s) t0 s'.journal new r r (s.history.items ++ e ∷ [])) (same_end got.0 got.1) got.2)
 
-  waits_then : IsInDoubt last effect (state_after last (tapes_of s) (entry_waits first t0 old new s s' b next c effect caller call reply tr later sizes honest moments))
+  waits_then : IsInDoubt last effect (state_after last (tapes_of s) (entry_waits first t0 old new s s' b next c effect caller call reply tr later sizes alike moments))
   waits_then =
-      let is = next_waits first t0 old new s s' b next c effect caller call reply tr later sizes in
+      let is = next_waits first t0 old new s s' b next c effect caller call reply tr later sizes alike in
       record { kept = ap (λ (t : State). t.kept) is; doubt = ap (λ (t : State). t.doubt) is; form = ap (λ (t : State). t.form) is; left = ap (λ (t : State). t.left) is }
 
   pub switch_waits : (doubted : Doubted) → doubted.next ≡ next → doubted.form ≡ base.form → s'.tapes ≡ s.tapes
-      → s'.history.items ≡ s.history.items ++ entry_waits first t0 old new s s' b next c effect caller call reply tr later sizes honest moments ∷ []
+      → s'.history.items ≡ s.history.items ++ entry_waits first t0 old new s s' b next c effect caller call reply tr later sizes alike moments ∷ []
       → s'.journal.shape ≡ s.journal.shape → s'.journal.seat ≡ s.journal.seat → s'.journal.doubt ≡ Some (Area gate) → s'.doubt ≡ Some doubted → s'.parts ≡ s.parts
       → SwitchesCarry old new → (IsTrue old.honest → Doubts (λ r. switched r base.payloads) s.journal s'.journal old new × StaysWithin (λ r. switched r base.payloads) s.journal old new)
       → Stood first t0 new s'
   switch_waits doubted same form tapes items shape seat unsure some parts carry doubts =
-      stood_waits first t0 old new s s' b next c effect caller call reply tr later sizes end (Area gate) doubted same tapes items shape seat unsure some parts
+      stood_waits first t0 old new s s' b next c effect caller call reply tr later sizes alike end (Area gate) doubted same tapes items shape seat unsure some parts
       (λ p shows. subst (λ (f : ℕ). Rebuilds (in_form f p) end) (sym form) (tables_then p shows))
       fills_then
       seated_then
       (λ h. let h' = honest h in let d = doubts h' in
-      let e = entry_waits first t0 old new s s' b next c effect caller call reply tr later sizes honest moments in
+      let e = entry_waits first t0 old new s s' b next c effect caller call reply tr later sizes alike moments in
       let got = carry.doubt first (tapes_of s) t0 s.journal s'.journal b b s.history.items effect base.form base.payloads x e (moments h') (tr.upright.held h') tr.may.sure (spells h') d.0 d.1 refl (fits.behind, to_form, waits_then) in
       subst (λ (r : Rebuilt). IsHeld first (tapes_of s) t0 s'.journal new b r (s.history.items ++ e ∷ [])) (same_end got.0 got.1) got.2)

@@ -18,6 +18,7 @@ use Rattle.voice_model.specs.declared.calls.Reply.TheVariants as replies
 use Rattle.voice_model.specs.declared.calls.Why.TheVariants as why
 use Rattle.voice_model.specs.declared.calls.Entry.{Entry}
 use Rattle.voice_model.specs.declared.changes.Change.{Change}
+use Rattle.voice_model.proofs.Heard.{answer_on}
 use Rattle.voice_model.proofs.StatesKept.{state_kept}
 use Rattle.recovery.specs.Shown.{Rebuilds}
 use Rattle.recovery.specs.declared.parts.Parts.{Parts}
@@ -46,7 +47,7 @@ pub shape_tried : (first : State) (t0 : ℕ) (old : Told) (s : Inside) (b : Rebu
 shape_tried first t0 old s b next c effect caller call reply tr = ap (λ (d : Durable Tagged). d.shape) tr.upright.fills.kept ∙ tr.upright.seated.shape
 
 module _ (first : State) (t0 : ℕ) (old new : Told) (s s' : Inside) (b : Rebuilt) (next : NextChange) (c : Change) (effect : Effect Tagged) (caller : ℕ) (call : Call) (reply : Reply)
-    (tr : Trying first t0 old s b next c effect caller call reply) (later : old.calls ≤ new.calls) (sizes : new.size ≡ old.size) where
+    (tr : Trying first t0 old s b next c effect caller call reply) (later : old.calls ≤ new.calls) (sizes : new.size ≡ old.size) (alike : new.honest ≡ old.honest) where
   abbrev last : State
   last = last_of first s
 
@@ -72,7 +73,7 @@ module _ (first : State) (t0 : ℕ) (old new : Told) (s s' : Inside) (b : Rebuil
       → Stood first t0 new s'
   stood_done after' doubt tapes items shape seat sure none tables fills seated held =
       let to : (P : State → Type 0) → P (committed last last.form effect) → P (state_after last (tapes_of s) (said reply)) = λ P p. subst P (sym next_done) p in
-      stood_pushed first t0 old new s s' (said reply) tapes items tr.fill tr.later_fill b after' b after' tr.upright later refl answers_done
+      stood_pushed first t0 old new s s' (said reply) tapes items tr.fill tr.later_fill b after' b after' tr.upright later alike refl (answer_on new.honest last (tapes_of s) (said reply) answers_done)
       (state_kept last (tapes_of s) (said reply) tr.upright.valid tr.in_range answers_done)
       (to (λ t. AreQuiet t.lanes) tr.upright.quiet)
       (to (λ t. Fills tr.later_fill after' t) fills)
@@ -96,7 +97,7 @@ module _ (first : State) (t0 : ℕ) (old new : Told) (s s' : Inside) (b : Rebuil
   stood_failed tapes items shape seat sure none tables held =
       let e = said (replies.No why.DiskFault) in
       let to : (P : State → Type 0) → P last → P (state_after last (tapes_of s) e) = λ P p. subst P (sym next_failed) p in
-      stood_pushed first t0 old new s s' e tapes items tr.fill tr.fill b b b b tr.upright later refl tr.may.faults.answers
+      stood_pushed first t0 old new s s' e tapes items tr.fill tr.fill b b b b tr.upright later alike refl (answer_on new.honest last (tapes_of s) e tr.may.faults.answers)
       (to (λ t. IsState t) tr.upright.valid)
       (to (λ t. AreQuiet t.lanes) tr.upright.quiet)
       (to (λ t. Fills tr.fill b t) tr.upright.fills)
@@ -136,7 +137,7 @@ module _ (first : State) (t0 : ℕ) (old new : Told) (s s' : Inside) (b : Rebuil
       let to : (P : State → Type 0) → P waiting → P (state_after last (tapes_of s) e) = λ P p. subst P (sym next_waits) p in
       let there : (P : State → Type 0) → P (committed last last.form effect) → P (landed waiting) = λ P p. subst P (sym lands_then) p in
       let seat_then : landed_seat s'.journal.seat doubt ≡ landed_seat s.journal.seat doubt = ap (λ (x : Seat). landed_seat x doubt) seat in
-      stood_pushed first t0 old new s s' e tapes items tr.fill tr.fill b b b after' tr.upright later refl tr.may.doubts
+      stood_pushed first t0 old new s s' e tapes items tr.fill tr.fill b b b after' tr.upright later alike refl (answer_on new.honest last (tapes_of s) e tr.may.doubts)
       (to (λ t. IsState t) valid_waits)
       (to (λ t. AreQuiet t.lanes) tr.upright.quiet)
       (to (λ t. Fills tr.fill b t) (record { spots = tr.upright.fills.spots; kept = tr.upright.fills.kept; form = tr.upright.fills.form }))

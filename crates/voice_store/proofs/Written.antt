@@ -28,6 +28,7 @@ use Rattle.voice_model.specs.declared.calls.Entry.{Entry}
 use Rattle.voice_model.specs.declared.changes.Change.{Change}
 use Rattle.voice_model.specs.declared.changes.Change.TheVariants as kinds
 use Rattle.voice_model.proofs.FitsOfCalls.{recorded_length}
+use Rattle.voice_model.proofs.Heard.{answer_on}
 use Rattle.voice_model.proofs.ChangesOfEffects.{size_again}
 use Rattle.recovery.specs.Shown.{Rebuilds}
 use Rattle.recovery.specs.declared.parts.Parts.{Parts}
@@ -51,6 +52,7 @@ use Rattle.voice_store.specs.Keeping.{HasRoom, HoldsRecording, recorded_by}
 use Rattle.voice_store.specs.declared.ways.Way.{Way}
 use Rattle.voice_store.proofs.Kept.{is_sure, upright_by, same_number, same_shape}
 use Rattle.voice_store.proofs.Entries.{acks_later, stood_noted}
+use Rattle.voice_store.proofs.Pushed.{as_honest}
 use Rattle.voice_store.proofs.Making.{IsMaking, may_commit}
 use Rattle.voice_store.proofs.Recordable.{many as taken_as, recording_free}
 use Rattle.voice_store.proofs.Spared.{below_at, free_at, distinct_at, spares_within}
@@ -185,8 +187,11 @@ module _ (first : State) (t0 : ℕ) (old : Told) (s : Inside) (take : Take) (nex
 
   -- ---- after the write
 
-  module _ (new : Told) (laws : Foundations) (later_on : old.calls ≤ new.calls) (sizes_same : new.size ≡ old.size) (to_old : IsTrue new.honest → IsTrue old.honest)
+  module _ (new : Told) (laws : Foundations) (later_on : old.calls ≤ new.calls) (sizes_same : new.size ≡ old.size) (alike : new.honest ≡ old.honest)
       (moments : IsTrue old.honest → IsLater old new) (wrote : IsTrue old.honest → WroteAt s.journal.shape addresses old new) where
+    to_old : IsTrue new.honest → IsTrue old.honest
+    to_old h = subst (λ (x : Bool). IsTrue x) alike h
+
     spared : IsTrue old.honest → SparesWithin s.journal.shape b old new
     spared is =
         subst (λ (x : Shape). SparesWithin x b old new) in_shape
@@ -198,7 +203,7 @@ module _ (first : State) (t0 : ℕ) (old : Told) (s : Inside) (take : Take) (nex
 
     upright_on : Upright first t0 new s h.makes.stood.fill b b
     upright_on = let up = upright_then in record {
-      legal = up.legal;
+      legal = as_honest first old new s alike up.legal;
       valid = up.valid;
       quiet = up.quiet;
       fills = up.fills;
@@ -247,5 +252,6 @@ module _ (first : State) (t0 : ℕ) (old : Told) (s : Inside) (take : Take) (nex
           size = let is = h.makes.stood.size in omega (arith, is, sizes_same);
         } in
         let faults = (may caller).faults in
-        stood_noted first t0 new (record s { parts = parts }) history (entry_of caller (calls.Record take) (replies.No why.DiskFault) new.calls) items refl faults.answers (faults.stays new.calls)
+        stood_noted first t0 new (record s { parts = parts }) history (entry_of caller (calls.Record take) (replies.No why.DiskFault) new.calls) items refl
+        (answer_on new.honest last (tapes_of s) (entry_of caller (calls.Record take) (replies.No why.DiskFault) new.calls) faults.answers) (faults.stays new.calls)
         (λ is. (moments (to_old is)).is) (entries_count new) back

@@ -1,4 +1,4 @@
--- Calls that only ask.
+-- Calls that make no change.
 --     IsAsking call asks      what a call asks of the tables, or that it is of a kind that makes changes
 --     HasInterest s class key rope note      an interest stands, of this rope and with this note
 use Rattle.std.specs.Prelude.{◌≡◌, ℕ, List, Some, IsTrue}
@@ -8,6 +8,7 @@ use Rattle.voice_model.specs.declared.calls.Call.{Call}
 use Rattle.voice_model.specs.declared.calls.Call.TheVariants as calls
 use Rattle.voice_model.specs.declared.calls.Class.{Class}
 use Rattle.voice_model.specs.declared.calls.Row.{Row}
+use Rattle.voice_store.specs.Hearing.{call_for}
 use Rattle.voice_store.specs.declared.applying.Asks.{Asks}
 use Rattle.voice_store.specs.declared.applying.Asks.TheVariants as asks
 
@@ -15,6 +16,7 @@ use Rattle.voice_store.specs.declared.applying.Asks.TheVariants as asks
 abbrev pub IsAsking : Call → Asks → Type 0
 IsAsking call (asks.Length rope) = call ≡ calls.Length rope
 IsAsking call (asks.Interest class key) = call ≡ calls.Lookup class key
+IsAsking call (asks.Sound sound rope) = call ≡ call_for sound rope
 IsAsking call asks.Change = IsTrue (is_changing call)
 
 -- an interest stands, of this rope and with this note

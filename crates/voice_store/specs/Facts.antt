@@ -1,22 +1,27 @@
 -- What calls of the store are, for its proofs.
 --     entry_of caller call reply ack, landing_at ack      an entry; that of a landing
---     Stays s tapes caller call reply      the call may be answered so, which leaves the state
+--     Stays honest s tapes caller call reply      the call may be answered so on a disk of this honesty, which leaves the state
 --     MayCommit s tapes caller call effect      nothing refuses the call, which makes this change and does nothing else
 --     Adds caller call reply ack old new      the entry of a call came last, after a landing where one was made
 --     AddsLanding old new      no entry came, or that of a landing
 --     Goes most old new      the counts of a disk after at most so many calls
---     OnlyLooked old new      no byte of a disk is changed, and a crash leaves nothing new
+--     GoesOn old new      the same after any number of calls
 --     IsFault reply      a reply that tells of a device fault
 --     TakesAreIn, HasRopes      what the store wants of the words of a call
 --     is_edit call      a call that makes a rope of others
---     most_calls block call      how many device calls its answer takes at most
+--     hears call      a call that hears a rope
+--     only_tells call      a call that is answered by the tables alone
+--     stretches_of s id      how many stretches a rope has
+--     most_reads, most_calls s call      how many blocks it reads, and how many device calls its answer takes, at most
 use Rattle.std.specs.Prelude.{◌≡◌, ◌⊎◌, ℕ, ◌+◌, ◌≤◌, Bool, true, false, List, [], ◌∷◌, ◌++◌, length, Some, None}
-use Rattle.voice_outside.specs.Disk.{Told, Now, Leaves}
-use Rattle.voice_model.specs.Samples.{Tagged}
-use Rattle.voice_model.specs.State.{State, Effect}
+use Rattle.voice_outside.specs.Disk.{Told}
+use Rattle.voice_units.specs.Spots.{stretches}
+use Rattle.voice_model.specs.Samples.{Tagged, spots_in_rope}
+use Rattle.voice_model.specs.State.{State, Effect, samples_of}
 use Rattle.voice_model.specs.Changes.{committed}
 use Rattle.voice_model.specs.Tapes.{HasTake}
 use Rattle.voice_model.specs.Step.{IsReply, state_after, reply_of, outcome_of}
+use Rattle.voice_model.specs.Heard.{IsReplyOn}
 use Rattle.voice_model.specs.declared.calls.Call.{Call}
 use Rattle.voice_model.specs.declared.calls.Call.TheVariants as calls
 use Rattle.voice_model.specs.declared.calls.Reply.{Reply}
@@ -32,9 +37,9 @@ entry_of caller call reply ack = record { caller = caller; call = call; reply = 
 abbrev pub landing_at : ℕ → Entry
 landing_at ack = entry_of 0 calls.Landed replies.Done ack
 
--- a call that may be answered so, and then leaves the state as it was
-pub record Stays (s : State) (tapes : List (List ℕ)) (caller : ℕ) (call : Call) (reply : Reply) : Type 0 where
-  pub answers : IsReply s tapes caller call reply
+-- a call that may be answered so, on a disk of this honesty, and then leaves the state as it was
+pub record Stays (honest : Bool) (s : State) (tapes : List (List ℕ)) (caller : ℕ) (call : Call) (reply : Reply) : Type 0 where
+  pub answers : IsReplyOn honest s tapes caller call reply
   pub stays : (ack : ℕ) → state_after s tapes (entry_of caller call reply ack) ≡ s
 
 -- a call that nothing refuses; it makes this change and does nothing else, or faults before, or in doubt
@@ -42,7 +47,7 @@ pub record MayCommit (s : State) (tapes : List (List ℕ)) (caller : ℕ) (call 
   pub sure : s.doubt ≡ None
   pub answers : IsReply s tapes caller call (reply_of s tapes call)
   pub commits : (ack : ℕ) → state_after s tapes (entry_of caller call (reply_of s tapes call) ack) ≡ committed s s.form effect
-  pub faults : Stays s tapes caller call (replies.No why.DiskFault)
+  pub faults : Stays true s tapes caller call (replies.No why.DiskFault)
   pub doubts : IsReply s tapes caller call (replies.No why.InDoubt)
   pub waits : (ack : ℕ) → state_after s tapes (entry_of caller call (replies.No why.InDoubt) ack) ≡ record s { doubt = Some (record { effect = effect; form = s.form }) }
 
@@ -63,11 +68,12 @@ pub record Goes (most : ℕ) (old new : Told) : Type 0 where
   pub calls : new.calls ≤ old.calls + most
   pub faults : old.faults ≤ new.faults
 
--- no byte of a disk is changed, and a crash leaves nothing new
-pub record OnlyLooked (old new : Told) : Type 0 where
-  pub bytes : new.bytes ≡ old.bytes
-  pub now : Now new (λ image. old.may_leave old.calls image)
-  pub crash : Leaves old new (λ image. old.may_leave old.calls image)
+-- the counts of a disk after calls
+pub record GoesOn (old new : Told) : Type 0 where
+  pub size : new.size ≡ old.size
+  pub honest : new.honest ≡ old.honest
+  pub later : old.calls ≤ new.calls
+  pub faults : old.faults ≤ new.faults
 
 -- a reply that tells of a device fault
 abbrev pub IsFault : Reply → Type 0
@@ -91,9 +97,33 @@ is_edit (calls.Sub id start len) = true
 is_edit (calls.Replace id start len with) = true
 is_edit _ = false
 
+-- a call that hears a rope: it reads the disk, and leaves the state
+abbrev pub hears : Call → Bool
+hears (calls.Describe id) = true
+hears (calls.Levels id) = true
+hears _ = false
+
+-- a call that is answered by the tables alone
+abbrev pub only_tells : Call → Bool
+only_tells (calls.Length id) = true
+only_tells (calls.Lookup class key) = true
+only_tells _ = false
+
+-- how many stretches a rope has, none where it is not live
+abbrev pub stretches_of : State → ℕ → ℕ
+stretches_of s id = length (stretches s.shape.block (spots_in_rope (samples_of s.ropes id)))
+
+-- how many blocks a call reads at most: one for each stretch of a rope that it hears
+abbrev pub most_reads : State → Call → ℕ
+most_reads s (calls.Describe id) = stretches_of s id
+most_reads s (calls.Levels id) = stretches_of s id
+most_reads s _ = 0
+
 -- how many device calls the answer to a call takes at most, with a landing before it
-abbrev pub most_calls : ℕ → Call → ℕ
-most_calls block (calls.Length id) = 0
-most_calls block (calls.Lookup class key) = 0
-most_calls block (calls.Record take) = 8 + take.len
-most_calls block _ = 8
+abbrev pub most_calls : State → Call → ℕ
+most_calls s (calls.Length id) = 0
+most_calls s (calls.Lookup class key) = 0
+most_calls s (calls.Describe id) = stretches_of s id
+most_calls s (calls.Levels id) = stretches_of s id
+most_calls s (calls.Record take) = 8 + take.len
+most_calls s _ = 8

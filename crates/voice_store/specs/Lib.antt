@@ -6,3 +6,4 @@ pub mod Shown
 pub mod Stood
 pub mod Trying
 pub mod Ways
+pub mod Hearing

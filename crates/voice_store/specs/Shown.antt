@@ -24,7 +24,7 @@ pub record Shown (D : Type 0) : Type 0 where
 abbrev pub FaultsCover : ℕ → List Entry → ℕ → Type 0
 FaultsCover low history high = high < 2 ^ 64 - 1 → low + count_by is_fault history ≤ high
 
--- the store was opened in this state, its history is legal from it, and what a crash may leave since an entry is that entry's state or a later one
+-- the store was opened in this state, its history is legal from it, on a disk that isn't honest but for the talk and peaks that were read off it, and what a crash may leave since an entry is that entry's state or a later one
 pub record Stands (first : State) (origin disk : Told) (inside : Inside) : Type 0 where
   pub stood : Stood first (origin.calls + 1) disk inside
   pub faults : FaultsCover origin.faults inside.history.items disk.faults

@@ -5,7 +5,7 @@
 --     ShowsState parts s      the tables show what outlives a crash of the state
 --     IsSeated journal s      the journal's place is that of the state
 --     AcksRise low history high      the moments of the entries never fall, and lie between these
---     Upright      the history is legal, and the disk holds it, whatever the tables show
+--     Upright      the history is legal (on a disk that isn't honest but for what was read off it), and the disk holds it, whatever the tables show
 --     IsSure, IsUnsure      the tables show the state: nothing is in doubt, or a change is ready to be done
 --     Stood      all of it, but for the count of faults
 use Rattle.std.specs.Prelude.{◌≡◌, ◌⊎◌, ℕ, ◌+◌, ◌≤◌, Bool, true, false, List, [], ◌∷◌, length, replicate, Some, None, IsTrue}
@@ -18,8 +18,9 @@ use Rattle.voice_journal.specs.declared.seats.Doubt.{Doubt}
 use Rattle.voice_model.specs.Samples.{Tagged, spot_of}
 use Rattle.voice_model.specs.State.{State, Effect, LaneState, Pending, quiet_lane}
 use Rattle.voice_model.specs.Changes.{changed}
-use Rattle.voice_model.specs.Step.{Legal, Outcome, outcome_of, landed}
+use Rattle.voice_model.specs.Step.{Outcome, outcome_of, landed}
 use Rattle.voice_model.specs.Step as step
+use Rattle.voice_model.specs.Heard.{LegalOn}
 use Rattle.voice_model.specs.Replay.{Rebuilt, durable_by, acted}
 use Rattle.voice_model.specs.Base.{change_of}
 use Rattle.voice_model.specs.Valid.{IsState}
@@ -83,9 +84,9 @@ is_fault e = is_fault_of (outcome_of e.reply)
 abbrev pub AreQuiet : List LaneState → Type 0
 AreQuiet lanes = lanes ≡ replicate (length lanes) quiet_lane
 
--- the history is legal, and the disk holds it, whatever the tables show
+-- the history is legal, on a disk that isn't honest but for the talk and peaks that were read off it, and the disk holds it, whatever the tables show
 pub record Upright (first : State) (t0 : ℕ) (disk : Told) (s : Inside) (fill : Spot → Tagged) (b after : Rebuilt) : Type 0 where
-  pub legal : Legal first (tapes_of s) s.history.items
+  pub legal : LegalOn disk.honest first (tapes_of s) s.history.items
   pub valid : IsState (last_of first s)
   pub quiet : AreQuiet (last_of first s).lanes
   pub fills : Fills fill b (last_of first s)

@@ -17,32 +17,16 @@ ghost use Rattle.voice_store.specs.Altering.{Weighs, Alters};
 ghost use Rattle.voice_store.specs.Facts.{Goes, IsFault, Stays, entry_of};
 
 use crate::inside::Inside;
+use crate::replies::twice;
 use crate::ways::{LAST_EPOCH, Way};
 use checkpoint::parts_size;
 use crash_laws::laws::{disks_are_honest, foundations};
 use next_changes::{NextChange, parts_after};
 use ready_changes::ReadyChange;
 use row_calls::{Asked, Growth, ask};
-use std::alloc::Global;
-use voice_model::{Call, Reply, RopeList, Why};
+use voice_model::{Call, Reply, Why};
 use voice_outside::Disk;
 use voice_units::NoMemory;
-
-// A reply twice: one is entered, and one is answered.
-fn twice(alloc: Global, reply: Reply) -> Result<(Reply, Reply), NoMemory>
-    ensures first { IfOk result (λ both. both.0 ≡ reply) }
-    ensures second { IfOk result (λ both. both.1 ≡ reply) }
-{
-    match reply {
-        Reply::Done => Ok((Reply::Done, Reply::Done)),
-        Reply::Number(n) => Ok((Reply::Number(n), Reply::Number(n))),
-        Reply::Swept(rows, ropes) => {
-            let again = RopeList::of(Vec::from_slice(alloc, ropes.items())?);
-            Ok((Reply::Swept(rows, ropes), Reply::Swept(rows, again)))
-        }
-        _ => Err(NoMemory),
-    }
-}
 
 // The bytes that a change's record takes, with its gate and its length.
 fn frame_of(next: &NextChange) -> u64
@@ -140,8 +124,8 @@ impl Inside {
         }
     }
 
-    // Enters a call that alters nothing.
-    fn answer<D: Disk>(
+    /// Enters a call that alters nothing.
+    pub(crate) fn answer<D: Disk>(
         &mut self,
         disk: &D,
         caller: u16,
@@ -153,7 +137,7 @@ impl Inside {
         ensures items { self.new.history.items ≡ self.old.history.items ++ entry_of caller call result (D.told disk.now).calls ∷ [] }
         ensures rest { self.new ≡ record self.old { history = self.new.history } }
         ensures reply { result ≡ replies.1 }
-        ensures stood { (first : State) (t0 : ℕ) → Stood first t0 (D.told disk.now) self.old → Stays (last_of first self.old) (tapes_of self.old) caller call replies.0 → Stood first t0 (D.told disk.now) self.new }
+        ensures stood { (first : State) (t0 : ℕ) → Stood first t0 (D.told disk.now) self.old → Stays (D.told disk.now).honest (last_of first self.old) (tapes_of self.old) caller call replies.0 → Stood first t0 (D.told disk.now) self.new }
     {
         self.note(disk, caller, call, replies.0);
         replies.1

@@ -4,22 +4,24 @@ ghost use Rattle.std.specs.Prelude.{◌≡◌, ◌+◌, ◌≤◌, ◌<◌, ◌+
 ghost use Rattle.voice_outside.specs.Counters.{HasRisen};
 ghost use Rattle.voice_model.specs.State.{State};
 ghost use Rattle.voice_model.specs.Changes.{is_changing};
-ghost use Rattle.voice_model.specs.Step.{landing_failed};
 ghost use Rattle.voice_model.specs.Valid.{InRange};
 ghost use Rattle.voice_store.specs.Asking.{IsAsking};
 ghost use Rattle.voice_store.specs.Stood.{Stood, last_of, tapes_of};
-ghost use Rattle.voice_store.specs.Facts.{Adds, AddsLanding, Goes, HasRopes, IsFault, TakesAreIn, entry_of, most_calls};
+ghost use Rattle.listening.specs.Looks.{Looked};
+ghost use Rattle.voice_store.specs.Facts.{Adds, AddsLanding, Goes, HasRopes, IsFault, Stays, TakesAreIn, entry_of, hears, only_tells, most_reads, most_calls};
 ghost use Rattle.built_calls.specs.Built.{is_built};
 
+use crate::hearing::Sound;
 use crate::inside::Inside;
 use voice_model::{Call, Class, Key, Reply, Why};
 use voice_outside::Disk;
 use voice_units::{NoMemory, RopeId};
 
-/// What a call asks of the tables, or that it is of a kind that makes changes.
+/// What a call asks of the tables or of the disk, or that it is of a kind that makes changes.
 enum Asks {
     Length(RopeId),
     Interest(Class, Key),
+    Sound(Sound, RopeId),
     Change,
 }
 
@@ -31,6 +33,8 @@ fn asked_of(call: &Call) -> Asks
     match call {
         Call::Length(rope) => Asks::Length(*rope),
         Call::Lookup(class, key) => Asks::Interest(*class, *key),
+        Call::Describe(rope) => Asks::Sound(Sound::Talk, *rope),
+        Call::Levels(rope) => Asks::Sound(Sound::Peaks, *rope),
         _ => Asks::Change,
     }
 }
@@ -56,13 +60,12 @@ impl Inside {
         self.settle(disk)
     }
 
-    // Enters a call whose landing failed.
-    fn note_unlanded<D: Disk>(&mut self, disk: &D, caller: u16, call: Call) -> Reply
-        requires built { IsTrue (is_built call) }
+    /// Enters a call that a device fault ended.
+    pub(crate) fn note_fault<D: Disk>(&mut self, disk: &D, caller: u16, call: Call) -> Reply
         requires room { vec_len self.old.history < vec_capacity self.old.history }
         ensures items { self.new.history.items ≡ self.old.history.items ++ entry_of caller call result (D.told disk.now).calls ∷ [] }
         ensures rest { self.new ≡ record self.old { history = self.new.history } }
-        ensures stood { (first : State) (t0 : ℕ) → Stood first t0 (D.told disk.now) self.old → IsTrue (landing_failed (last_of first self.old) call) → Stood first t0 (D.told disk.now) self.new }
+        ensures stood { (first : State) (t0 : ℕ) → Stood first t0 (D.told disk.now) self.old → Stays (D.told disk.now).honest (last_of first self.old) (tapes_of self.old) caller call (Reply.No Why.DiskFault) → Stood first t0 (D.told disk.now) self.new }
     {
         self.note(disk, caller, call, Reply::No(Why::DiskFault));
         Reply::No(Why::DiskFault)
@@ -78,7 +81,7 @@ impl Inside {
         requires ropes { HasRopes call }
         requires range { InRange call }
         requires room { vec_len self.old.history < vec_capacity self.old.history }
-        ensures goes { (block calls : ℕ) → most_calls block call ≡ calls + 2 → Goes calls (D.told disk.old) (D.told disk.new) }
+        ensures goes { (s : State) (calls : ℕ) → most_calls s call ≡ calls + 2 → Goes calls (D.told disk.old) (D.told disk.new) }
         ensures cause { IfOk result (λ reply. IsFault reply → HasRisen (D.told disk.old).faults (D.told disk.new).faults) }
         ensures items { IfOk result (λ reply. self.new.history.items ≡ self.old.history.items ++ entry_of caller call reply (D.told disk.new).calls ∷ []) }
         ensures err { OnErr result (self.new.history.items ≡ self.old.history.items) }
@@ -111,7 +114,7 @@ impl Inside {
         requires ropes { HasRopes call }
         requires range { InRange call }
         requires room { vec_len self.old.history + 2 ≤ vec_capacity self.old.history }
-        ensures goes { (block : ℕ) → Goes (most_calls block call) (D.told disk.old) (D.told disk.new) }
+        ensures goes { (s : State) → Goes (most_calls s call) (D.told disk.old) (D.told disk.new) }
         ensures cause { IfOk result (λ reply. IsFault reply → HasRisen (D.told disk.old).faults (D.told disk.new).faults) }
         ensures entry { IfOk result (λ reply. Adds caller call reply (D.told disk.new).calls self.old.history.items self.new.history.items) }
         ensures err { OnErr result (AddsLanding self.old.history.items self.new.history.items) }
@@ -121,7 +124,7 @@ impl Inside {
         ensures stood { (first : State) (t0 : ℕ) → Stood first t0 (D.told disk.old) self.old → Stood first t0 (D.told disk.new) self.new }
     {
         if !self.land_first(disk) {
-            return Ok(self.note_unlanded(disk, caller, call));
+            return Ok(self.note_fault(disk, caller, call));
         }
         self.change(disk, caller, call)
     }
@@ -140,11 +143,12 @@ impl Inside {
         requires range { InRange call }
         ensures entry { IfOk result (λ reply. Adds caller call reply (D.told disk.new).calls self.old.history.items self.new.history.items) }
         ensures err { OnErr result (AddsLanding self.old.history.items self.new.history.items) }
-        ensures few { OnErr result (Goes 2 (D.told disk.old) (D.told disk.new)) }
-        ensures still { self.old.doubt ≡ None → OnErr result ((disk.new ≡ disk.old) × (self.new.history.items ≡ self.old.history.items)) }
-        ensures spare { is_changing call ≡ false → vec_len self.old.history + 2 ≤ vec_capacity self.old.history → IsOk result }
+        ensures few { (first : State) (t0 : ℕ) → Stood first t0 (D.told disk.old) self.old → OnErr result (Goes (2 + most_reads (last_of first self.old) call) (D.told disk.old) (D.told disk.new)) }
+        ensures still { self.old.doubt ≡ None → OnErr result ((self.new.history.items ≡ self.old.history.items) × (hears call ≡ false → disk.new ≡ disk.old)) }
+        ensures looks { IsTrue (hears call) → (first : State) (t0 : ℕ) → Stood first t0 (D.told disk.old) self.old → Looked (most_reads (last_of first self.old) call) (D.told disk.old) (D.told disk.new) }
+        ensures spare { IsTrue (only_tells call) → vec_len self.old.history + 2 ≤ vec_capacity self.old.history → IsOk result }
         ensures cause { IfOk result (λ reply. IsFault reply → HasRisen (D.told disk.old).faults (D.told disk.new).faults) }
-        ensures goes { (block : ℕ) → Goes (most_calls block call) (D.told disk.old) (D.told disk.new) }
+        ensures goes { (first : State) (t0 : ℕ) → Stood first t0 (D.told disk.old) self.old → Goes (most_calls (last_of first self.old) call) (D.told disk.old) (D.told disk.new) }
         ensures tapes { self.new.tapes ≡ self.old.tapes }
         ensures stood { (first : State) (t0 : ℕ) → Stood first t0 (D.told disk.old) self.old → Stood first t0 (D.told disk.new) self.new }
     {
@@ -152,6 +156,7 @@ impl Inside {
         match asked_of(&call) {
             Asks::Length(rope) => Ok(self.tell_length(disk, caller, rope)),
             Asks::Interest(class, key) => Ok(self.tell_interest(disk, caller, class, key)),
+            Asks::Sound(sound, rope) => self.tell_sound(disk, caller, rope, sound),
             Asks::Change => self.land_and_change(disk, caller, call),
         }
     }

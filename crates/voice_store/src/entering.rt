@@ -42,7 +42,7 @@ impl Inside {
         requires { vec_len self.old.history < vec_capacity self.old.history }
         ensures items { self.new.history.items ≡ self.old.history.items ++ entry_of caller call reply (D.told disk.now).calls ∷ [] }
         ensures rest { self.new ≡ record self.old { history = self.new.history } }
-        ensures stood { (first : State) (t0 : ℕ) → Stood first t0 (D.told disk.now) self.old → Stays (last_of first self.old) (tapes_of self.old) caller call reply → Stood first t0 (D.told disk.now) self.new }
+        ensures stood { (first : State) (t0 : ℕ) → Stood first t0 (D.told disk.now) self.old → Stays (D.told disk.now).honest (last_of first self.old) (tapes_of self.old) caller call reply → Stood first t0 (D.told disk.now) self.new }
     {
         enter(&mut self.history, caller, call, reply, disk.calls());
     }

@@ -6,11 +6,13 @@ mod applying;
 mod committing;
 mod editing;
 mod entering;
+mod hearing;
 mod inside;
 mod landing;
 mod opening;
 mod recording;
 mod refusing;
+mod replies;
 mod store;
 mod ways;
 

@@ -9,7 +9,8 @@ ghost use Rattle.voice_model.specs.Image.{Reading, Replayed, reading, replayed, 
 ghost use Rattle.recovery.specs.Replayed.{records_of};
 ghost use Rattle.recovery.specs.Shown.{Rebuilds};
 ghost use Rattle.voice_store.specs.Stood.{Stood};
-ghost use Rattle.voice_store.specs.Facts.{Goes, OnlyLooked};
+ghost use Rattle.listening.specs.Looks.{OnlyLooked};
+ghost use Rattle.voice_store.specs.Facts.{Goes};
 
 use crate::inside::Inside;
 use crash_laws::laws::foundations;

@@ -9,12 +9,12 @@ ghost use Rattle.voice_journal.specs.Looks.{Since};
 ghost use Rattle.voice_journal.specs.Formatted.{IsFormatted, SameButHeads};
 ghost use Rattle.voice_model.specs.State.{State, formatted};
 ghost use Rattle.voice_model.specs.Room.{free};
-ghost use Rattle.voice_model.specs.Changes.{is_changing};
 ghost use Rattle.voice_model.specs.Valid.{InRange};
 ghost use Rattle.voice_model.specs.Image.{Reading, reading, opened_from};
-ghost use Rattle.voice_store.specs.Shown.{Keeps, HasRoomFor, history_of, tapes_in, block_of, state_of};
+ghost use Rattle.voice_store.specs.Shown.{Keeps, HasRoomFor, history_of, tapes_in, state_of};
 ghost use Rattle.voice_store.specs.Stood.{ShowsState};
-ghost use Rattle.voice_store.specs.Facts.{Adds, AddsLanding, Goes, OnlyLooked, IsFault, TakesAreIn, HasRopes, most_calls};
+ghost use Rattle.listening.specs.Looks.{OnlyLooked};
+ghost use Rattle.voice_store.specs.Facts.{Adds, AddsLanding, Goes, GoesOn, IsFault, TakesAreIn, HasRopes, hears, only_tells, most_reads, most_calls};
 ghost use Rattle.built_calls.specs.Built.{is_built};
 
 use crate::inside::Inside;
@@ -98,15 +98,18 @@ impl<D: Disk> Store<D> {
         requires caller_most { caller ≤ 16 }
         ensures entry { IfOk result (λ reply. Adds caller call reply (D.told self.new.disk).calls (history_of self.old) (history_of self.new)) }
         ensures err { OnErr result (AddsLanding (history_of self.old) (history_of self.new)) }
-        // The history stays legal, and what a crash may leave since an entry is that entry's state or a later one.
+        // The history stays legal, on a disk that isn't honest but for the talk and peaks that were read off it; and what a crash may leave since an entry is that entry's state or a later one.
         ensures state { (first : State) → Keeps D.told first self.old → Keeps D.told first self.new }
-        // A call that only asks takes no memory where there is room for its entry and one more.
-        ensures spare { is_changing call ≡ false → HasRoomFor 2 self.old → IsOk result }
+        // A call that the tables alone answer takes no memory where there is room for its entry and one more.
+        ensures spare { IsTrue (only_tells call) → HasRoomFor 2 self.old → IsOk result }
         ensures cause { IfOk result (λ reply. IsFault reply → HasRisen (D.told self.old.disk).faults (D.told self.new.disk).faults) }
-        ensures goes { Goes (most_calls (block_of self.old) call) (D.told self.old.disk) (D.told self.new.disk) }
-        // A call for which there is no memory makes no device call but those of a landing.
-        ensures few { OnErr result (Goes 2 (D.told self.old.disk) (D.told self.new.disk)) }
-        ensures still { (first : State) → Keeps D.told first self.old → (state_of first self.old).doubt ≡ None → OnErr result ((self.new.disk ≡ self.old.disk) × (history_of self.new ≡ history_of self.old)) }
+        ensures goes { GoesOn (D.told self.old.disk) (D.told self.new.disk) }
+        ensures calls { (first : State) → Keeps D.told first self.old → (D.told self.new.disk).calls ≤ (D.told self.old.disk).calls + most_calls (state_of first self.old) call }
+        // A call for which there is no memory makes no device call but those of a landing, and reads.
+        ensures few { (first : State) → Keeps D.told first self.old → OnErr result ((D.told self.new.disk).calls ≤ (D.told self.old.disk).calls + (2 + most_reads (state_of first self.old) call)) }
+        ensures still { (first : State) → Keeps D.told first self.old → (state_of first self.old).doubt ≡ None → OnErr result ((history_of self.new ≡ history_of self.old) × (hears call ≡ false → self.new.disk ≡ self.old.disk)) }
+        // A call that hears a rope changes no byte, whatever its answer.
+        ensures looks { IsTrue (hears call) → IsTrue (D.told self.old.disk).honest → OnlyLooked (D.told self.old.disk) (D.told self.new.disk) }
         ensures origin { self.new.origin ≡ self.old.origin }
         ensures tapes { tapes_in self.new ≡ tapes_in self.old }
     {

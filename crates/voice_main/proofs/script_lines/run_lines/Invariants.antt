@@ -1,6 +1,6 @@
 use Rattle.std.proofs.Common.{◌≡◌, length}
 use Rattle.voice_model.specs.State.{State}
-use Rattle.voice_server.specs.Kept.{GoesOn}
+use Rattle.voice_store.specs.Facts.{GoesOn}
 use Rattle.voice_store.specs.Shown.{Keeps, history_of, tapes_in}
 use Rattle.voice_main.proofs.Followed.{IsAt}
 use Rattle.voice_main.proofs.script_lines.run_lines.Given as goal

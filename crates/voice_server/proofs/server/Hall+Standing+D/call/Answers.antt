@@ -26,7 +26,7 @@ leave-requires-clause-value g c κs within =
     let old = c.enter-store.result.store in
     let new = c.apply-reply.new.self in
     let a = c.apply-reply.ensures in
-    (same_origin old new a.origin a.tapes ∙ was.0, kept_on g.D.Disk.told old new _ was.1 a.state a.goes a.origin)
+    (same_origin old new a.origin a.tapes ∙ was.0, kept_on g.D.Disk.told old new was.1 a.state a.goes a.origin)
 
 pub leave-requires-clause-turn : goal.leave-requires-clause-turn
 leave-requires-clause-turn g c κs within =
@@ -42,7 +42,7 @@ returns-clause-legal g c =
     let old = c.enter-store.result.store in
     let new = c.apply-reply.new.self in
     let a = c.apply-reply.ensures in
-    legal_from g.D.Disk.told c.args.self.now new _ (kept_on g.D.Disk.told old new _ was.1 a.state a.goes a.origin) (same_origin old new a.origin a.tapes ∙ was.0) c.leave.ensures.seen
+    legal_from g.D.Disk.told c.args.self.now new _ (kept_on g.D.Disk.told old new was.1 a.state a.goes a.origin) (same_origin old new a.origin a.tapes ∙ was.0) c.leave.ensures.seen
 
 pub returns-clause-ok : goal.returns-clause-ok
 returns-clause-ok g c =

@@ -30,7 +30,6 @@ returns-in-Ok-clause-stood g c =
     let new = g.D.Disk.told c.append.new.disk in
     let laws = g.met.D.Disk g.world.𝓛 g.world.𝓜 g.world.𝓡 ((λ s x. x), (λ x. x), (λ x. x), λ x. x) in
     let made = c.append.ensures.made in
-    let to_old : IsTrue new.honest → IsTrue old.honest = λ h. subst (λ (x : Bool). IsTrue x) made.honest h in
     let to_new : IsTrue old.honest → IsTrue new.honest = λ h. subst (λ (x : Bool). IsTrue x) (sym made.honest) h in
     let moments : IsTrue old.honest → IsLater old new = λ h. record {
       later = made.later;
@@ -41,7 +40,7 @@ returns-in-Ok-clause-stood g c =
     let journal = c.in-Ok.ensures.ok_state in
     let on_journal : s'.journal ≡ c.append.new.self = ap (λ (x : Inside). x.journal) rest in
     let payload : c.payload.result.now ≡ payload_of c.args.next = c.payload.ensures.bytes in
-    appended_stood first t0 old new s s' b c.args.next c' effect c.args.caller c.args.call c.args.replies.0 tr made.later made.size to_old moments c.payload.result.now payload fits
+    appended_stood first t0 old new s s' b c.args.next c' effect c.args.caller c.args.call c.args.replies.0 tr made.later made.size made.honest moments c.payload.result.now payload fits
     (ap (λ (x : Inside). x.tapes) rest)
     c.done.ensures.items
     (ap (λ (j : JournalValue). j.shape) (on_journal ∙ journal))
@@ -61,7 +60,6 @@ returns-in-Err-Before-clause-stood g c =
     let new = g.D.Disk.told c.append.new.disk in
     let laws = g.met.D.Disk g.world.𝓛 g.world.𝓜 g.world.𝓡 ((λ s x. x), (λ x. x), (λ x. x), λ x. x) in
     let made = c.append.ensures.made in
-    let to_old : IsTrue new.honest → IsTrue old.honest = λ h. subst (λ (x : Bool). IsTrue x) made.honest h in
     let to_new : IsTrue old.honest → IsTrue new.honest = λ h. subst (λ (x : Bool). IsTrue x) (sym made.honest) h in
     let moments : IsTrue old.honest → IsLater old new = λ h. record {
       later = made.later;
@@ -72,7 +70,7 @@ returns-in-Err-Before-clause-stood g c =
     let before : Err c.in-Err-Before.field-0 ≡ Err Fault.Before = ap Err c.in-Err-Before.field-0-is in
     let journal = c.in-Err-Before.ensures.before_state before in
     let on_journal : s'.journal ≡ c.append.new.self = ap (λ (x : Inside). x.journal) rest in
-    failed_stood first t0 old new s s' b c.args.next c' effect c.args.caller c.args.call c.args.replies.0 tr made.later made.size to_old moments
+    failed_stood first t0 old new s s' b c.args.next c' effect c.args.caller c.args.call c.args.replies.0 tr made.later made.size made.honest moments
     (ap (λ (x : Inside). x.tapes) rest)
     c.failed.ensures.items
     (ap (λ (j : JournalValue). j.shape) (on_journal ∙ journal))
@@ -92,7 +90,6 @@ returns-clause-stood g c =
     let new = g.D.Disk.told c.append.new.disk in
     let laws = g.met.D.Disk g.world.𝓛 g.world.𝓜 g.world.𝓡 ((λ s x. x), (λ x. x), (λ x. x), λ x. x) in
     let made = c.append.ensures.made in
-    let to_old : IsTrue new.honest → IsTrue old.honest = λ h. subst (λ (x : Bool). IsTrue x) made.honest h in
     let to_new : IsTrue old.honest → IsTrue new.honest = λ h. subst (λ (x : Bool). IsTrue x) (sym made.honest) h in
     let moments : IsTrue old.honest → IsLater old new = λ h. record {
       later = made.later;
@@ -105,7 +102,7 @@ returns-clause-stood g c =
     let on_journal : s'.journal ≡ c.append.new.self = ap (λ (x : Inside). x.journal) rest in
     let payload : c.payload.result.now ≡ payload_of c.args.next = c.payload.ensures.bytes in
     let doubted : Doubted = record { next = c.args.next; form = s.parts.form } in
-    append_waits first t0 old new s s' b c.args.next c' effect c.args.caller c.args.call c.args.replies.0 tr made.later made.size to_old moments c.payload.result.now payload fits
+    append_waits first t0 old new s s' b c.args.next c' effect c.args.caller c.args.call c.args.replies.0 tr made.later made.size made.honest moments c.payload.result.now payload fits
     doubted refl refl
     (ap (λ (x : Inside). x.tapes) rest)
     c.wait.ensures.items

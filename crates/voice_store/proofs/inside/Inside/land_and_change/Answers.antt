@@ -1,7 +1,10 @@
-use Rattle.std.proofs.Common.{◌≡◌, ◌++◌, ◌∷◌, [], arith}
+use Rattle.std.proofs.Common.{◌≡◌, ◌++◌, ◌∷◌, [], ◌&&◌, refl, ap, ◌∙◌, arith}
+use Rattle.std.specs.Prelude.{is_some}
 use Rattle.voice_outside.specs.Counters.{HasRisen}
 use Rattle.voice_model.specs.declared.calls.Reply.{Reply}
 use Rattle.voice_store.specs.Facts.{Adds, AddsLanding, IsFault, entry_of, most_calls}
+use Rattle.voice_store.specs.Stood.{last_of, tapes_of}
+use Rattle.voice_store.proofs.Refused.{unlanded_stays}
 use Rattle.voice_store.proofs.Landed.{goes_on, risen_later, adds_after, landing_same, if_ok, on_error, most_of}
 use Rattle.voice_store.proofs.inside.Inside.land_and_change.Goals as goal
 
@@ -11,11 +14,11 @@ change-requires-clause-stood g c κs within =
     (stood.0, stood.1, c.land_first.ensures.stood stood.0 stood.1 stood.2)
 
 pub returns-clause-goes : goal.returns-clause-goes
-returns-clause-goes g c = λ block.
-    let most = most_of block c.args.call c.requires.built c.requires.changing in
+returns-clause-goes g c = λ state.
+    let most = most_of state c.args.call c.requires.built c.requires.changing in
     let n = most.1 in
-    goes_on 2 most.0 (most_calls block c.args.call) (g.D.Disk.told c.args.disk.now) (g.D.Disk.told c.land_first.new.disk) (g.D.Disk.told c.change.new.disk)
-    c.land_first.ensures.goes (c.change.ensures.goes block most.0 most.1) (omega (arith, n))
+    goes_on 2 most.0 (most_calls state c.args.call) (g.D.Disk.told c.args.disk.now) (g.D.Disk.told c.land_first.new.disk) (g.D.Disk.told c.change.new.disk)
+    c.land_first.ensures.goes (c.change.ensures.goes state most.0 most.1) (omega (arith, n))
 
 pub returns-clause-cause : goal.returns-clause-cause
 returns-clause-cause g c =
@@ -43,3 +46,12 @@ returns-clause-err g c =
 
 pub returns-clause-stood : goal.returns-clause-stood
 returns-clause-stood g c = λ first t0 stood. c.change.ensures.stood first t0 (c.land_first.ensures.stood first t0 stood)
+
+pub returns-then-not-land_first-clause-stood : goal.returns-then-not-land_first-clause-stood
+returns-then-not-land_first-clause-stood g c = λ first t0 stood.
+    let s = c.land_first.new.self in
+    let disk = g.D.Disk.told c.land_first.new.disk in
+    let last = last_of first s in
+    let unsure = c.if-not-land_first.ensures.unsure refl first t0 stood in
+    c.note_fault.ensures.stood first t0 (c.land_first.ensures.stood first t0 stood)
+    (unlanded_stays disk.honest last (tapes_of s) c.args.caller c.args.call c.requires.built (ap (λ b. b && is_some last.doubt) c.requires.changing ∙ unsure))

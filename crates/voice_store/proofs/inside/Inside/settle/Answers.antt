@@ -22,7 +22,6 @@ returns-then-is_err-clause-stood g c =
     let new = g.D.Disk.told c.land.new.disk in
     let laws = g.met.D.Disk g.world.𝓛 g.world.𝓜 g.world.𝓡 ((λ s x. x), (λ x. x), (λ x. x), λ x. x) in
     let made = c.land.ensures.made in
-    let to_old : IsTrue new.honest → IsTrue old.honest = λ h. subst (λ (x : Bool). IsTrue x) made.honest h in
     let to_new : IsTrue old.honest → IsTrue new.honest = λ h. subst (λ (x : Bool). IsTrue x) (sym made.honest) h in
     let moments : IsTrue old.honest → IsLater old new = λ h. record {
       later = made.later;
@@ -32,7 +31,7 @@ returns-then-is_err-clause-stood g c =
     let failed = sym c.is_err.ensures.value ∙ c.if-is_err.true in
     let some : is_none s.doubt ≡ false = search rules in
     let unsure = unsure_by s stood.b stood.after (last_of first s) some stood.tables in
-    stood_not_landed first t0 old new s s stood unsure made.later made.size to_old moments (landings_carry c.foundations.ensures old new) c.land.new.self
+    stood_not_landed first t0 old new s s stood unsure made.later made.size made.honest moments (landings_carry c.foundations.ensures old new) c.land.new.self
     (on_err c.land.result _ failed c.land.ensures.failed_state)
     (λ h. ((λ r p stands. on_err c.land.result _ failed (c.land.ensures.failed h r p stands)), c.land.ensures.crash h))
 
@@ -57,7 +56,6 @@ returns-clause-stood g c =
     let new = g.D.Disk.told c.land.new.disk in
     let laws = g.met.D.Disk g.world.𝓛 g.world.𝓜 g.world.𝓡 ((λ s x. x), (λ x. x), (λ x. x), λ x. x) in
     let made = c.land.ensures.made in
-    let to_old : IsTrue new.honest → IsTrue old.honest = λ h. subst (λ (x : Bool). IsTrue x) made.honest h in
     let to_new : IsTrue old.honest → IsTrue new.honest = λ h. subst (λ (x : Bool). IsTrue x) (sym made.honest) h in
     let moments : IsTrue old.honest → IsLater old new = λ h. record {
       later = made.later;
@@ -78,7 +76,7 @@ returns-clause-stood g c =
     let now : c.calls.result ≡ new.calls = c.calls.ensures in
     let items : s'.history.items ≡ s.history.items ++ landing_at new.calls ∷ [] =
     c.enter.ensures.items ∙ ap (λ (l : List Entry). l ++ landing_at c.calls.result ∷ []) on_same ∙ ap (λ (n : ℕ). s.history.items ++ landing_at n ∷ []) now in
-    stood_landed first t0 old new s s' stood unsure made.later made.size to_old moments (landings_carry c.foundations.ensures old new)
+    stood_landed first t0 old new s s' stood unsure made.later made.size made.honest moments (landings_carry c.foundations.ensures old new)
     (ap (λ (x : Inside). x.tapes) rest) items (ap (λ (x : Inside). x.journal) rest ∙ journal) (ap (λ (x : Inside). x.doubt) rest ∙ taken)
     (c.take_in.ensures.form ∙ ap (λ (d : Doubted). d.form) (sym same)) tables
     (λ h. (

@@ -38,7 +38,6 @@ returns-in-Ok-clause-stood g c =
     let new = g.D.Disk.told c.switch.new.disk in
     let laws = g.met.D.Disk g.world.𝓛 g.world.𝓜 g.world.𝓡 ((λ s x. x), (λ x. x), (λ x. x), λ x. x) in
     let made = c.switch.ensures.made in
-    let to_old : IsTrue new.honest → IsTrue old.honest = λ h. subst (λ (x : Bool). IsTrue x) made.honest h in
     let to_new : IsTrue old.honest → IsTrue new.honest = λ h. subst (λ (x : Bool). IsTrue x) (sym made.honest) h in
     let moments : IsTrue old.honest → IsLater old new = λ h. record {
       later = made.later;
@@ -48,7 +47,7 @@ returns-in-Ok-clause-stood g c =
     let rest = c.done.ensures.rest in
     let journal = c.in-Ok.ensures.ok_state in
     let on_journal : s'.journal ≡ c.switch.new.self = ap (λ (x : Inside). x.journal) rest in
-    switched_stood first t0 old new s s' b c.args.next c' effect c.args.caller c.args.call c.args.replies.0 tr made.later made.size to_old moments c.args.base.now is_base fits c.requires.fits
+    switched_stood first t0 old new s s' b c.args.next c' effect c.args.caller c.args.call c.args.replies.0 tr made.later made.size made.honest moments c.args.base.now is_base fits c.requires.fits
     (ap (λ (x : Inside). x.tapes) rest)
     c.done.ensures.items
     (ap (λ (j : JournalValue). j.shape) (on_journal ∙ journal))
@@ -70,7 +69,6 @@ returns-in-Err-Before-clause-stood g c =
     let new = g.D.Disk.told c.switch.new.disk in
     let laws = g.met.D.Disk g.world.𝓛 g.world.𝓜 g.world.𝓡 ((λ s x. x), (λ x. x), (λ x. x), λ x. x) in
     let made = c.switch.ensures.made in
-    let to_old : IsTrue new.honest → IsTrue old.honest = λ h. subst (λ (x : Bool). IsTrue x) made.honest h in
     let to_new : IsTrue old.honest → IsTrue new.honest = λ h. subst (λ (x : Bool). IsTrue x) (sym made.honest) h in
     let moments : IsTrue old.honest → IsLater old new = λ h. record {
       later = made.later;
@@ -81,7 +79,7 @@ returns-in-Err-Before-clause-stood g c =
     let before : Err c.in-Err-Before.field-0 ≡ Err Fault.Before = ap Err c.in-Err-Before.field-0-is in
     let journal = c.in-Err-Before.ensures.before_state before in
     let on_journal : s'.journal ≡ c.switch.new.self = ap (λ (x : Inside). x.journal) rest in
-    failed_stood first t0 old new s s' b c.args.next c' effect c.args.caller c.args.call c.args.replies.0 tr made.later made.size to_old moments
+    failed_stood first t0 old new s s' b c.args.next c' effect c.args.caller c.args.call c.args.replies.0 tr made.later made.size made.honest moments
     (ap (λ (x : Inside). x.tapes) rest)
     c.failed.ensures.items
     (ap (λ (j : JournalValue). j.shape) (on_journal ∙ journal))
@@ -101,7 +99,6 @@ returns-clause-stood g c =
     let new = g.D.Disk.told c.switch.new.disk in
     let laws = g.met.D.Disk g.world.𝓛 g.world.𝓜 g.world.𝓡 ((λ s x. x), (λ x. x), (λ x. x), λ x. x) in
     let made = c.switch.ensures.made in
-    let to_old : IsTrue new.honest → IsTrue old.honest = λ h. subst (λ (x : Bool). IsTrue x) made.honest h in
     let to_new : IsTrue old.honest → IsTrue new.honest = λ h. subst (λ (x : Bool). IsTrue x) (sym made.honest) h in
     let moments : IsTrue old.honest → IsLater old new = λ h. record {
       later = made.later;
@@ -113,7 +110,7 @@ returns-clause-stood g c =
     let journal = c.in-Err-Doubt.ensures.doubt_state doubt in
     let on_journal : s'.journal ≡ c.switch.new.self = ap (λ (x : Inside). x.journal) rest in
     let doubted : Doubted = record { next = c.args.next; form = c.args.base.now.form } in
-    switch_waits first t0 old new s s' b c.args.next c' effect c.args.caller c.args.call c.args.replies.0 tr made.later made.size to_old moments c.args.base.now is_base fits c.requires.fits
+    switch_waits first t0 old new s s' b c.args.next c' effect c.args.caller c.args.call c.args.replies.0 tr made.later made.size made.honest moments c.args.base.now is_base fits c.requires.fits
     doubted refl refl
     (ap (λ (x : Inside). x.tapes) rest)
     c.wait.ensures.items

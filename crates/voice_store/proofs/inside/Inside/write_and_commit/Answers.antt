@@ -1,4 +1,4 @@
-use Rattle.std.proofs.Common.{◌≤◌, ◌^◌, Bool, IsTrue, sym, subst}
+use Rattle.std.proofs.Common.{◌≤◌, ◌^◌, sym, subst}
 use Rattle.voice_model.specs.declared.calls.Call.TheVariants as calls
 use Rattle.next_changes.specs.declared.NextChange.TheVariants as changes
 use Rattle.voice_store.specs.declared.inside.Inside.{Inside}
@@ -31,7 +31,7 @@ returns-in_default-written-clause-stood g c = λ other is first t0 held plan.
     let rope = c.in-Rope.rope in
     let h = (subst (Goes first t0 old s c.args.take c.args.plan) (same_rope c.args.next other rope is c.in-Rope.is) (held, plan)).0 in
     subst (λ (x : Inside). Stood first t0 new x) (sym c.failed.ensures.rest)
-    (stood_unwritten first t0 old s c.args.take rope h new c.foundations.ensures made.later made.size (λ is. subst (λ (x : Bool). IsTrue x) made.honest is)
+    (stood_unwritten first t0 old s c.args.take rope h new c.foundations.ensures made.later made.size made.honest
     c.write_recording-written.ensures.moments c.write_recording-written.ensures.content c.args.caller s'.parts s'.history
     (c.failed.ensures.tables h.makes.stood.b (change_in h.makes.stood.b rope) h.ready) c.failed.ensures.items)
 
@@ -48,7 +48,7 @@ commit-requires-clause-can g c κs within =
     let goes = subst (Goes first t0 old s c.args.take c.args.plan) (same_rope c.args.next holds.0 rope holds.1 c.in-Rope.is) (holds.4, holds.5) in
     let b = goes.0.makes.stood.b in
     can_go first t0 new s b (changes.Rope rope) (change_in b rope) (recorded_by (last_of first s) (tapes_of s) c.args.take) c.args.caller (calls.Record c.args.take) c.replies_of-replies.result.0
-    (trying_recording first t0 old s c.args.take rope goes.0 new c.foundations.ensures made.later made.size (λ is. subst (λ (x : Bool). IsTrue x) made.honest is)
+    (trying_recording first t0 old s c.args.take rope goes.0 new c.foundations.ensures made.later made.size made.honest
     c.write_recording-written.ensures.moments c.write_recording-written.ensures.content c.args.caller c.in-Ok.ensures.written c.replies_of-replies.result.0 c.replies_of-replies.ensures.first)
     (subst (λ n. n ≤ 2 ^ 48) c.epoch-most.ensures.value c.epoch-most.ensures.most)
     c.args.plan goes.1
@@ -70,6 +70,6 @@ returns-clause-stood g c = λ other is first t0 held plan.
     let goes = subst (Goes first t0 old s c.args.take c.args.plan) (same_rope c.args.next other rope is c.in-Rope.is) (held, plan) in
     let b = goes.0.makes.stood.b in
     c.commit.ensures.stood first t0 b (change_in b rope) (recorded_by (last_of first s) (tapes_of s) c.args.take)
-    (trying_recording first t0 old s c.args.take rope goes.0 new c.foundations.ensures made.later made.size (λ is. subst (λ (x : Bool). IsTrue x) made.honest is)
+    (trying_recording first t0 old s c.args.take rope goes.0 new c.foundations.ensures made.later made.size made.honest
     c.write_recording-written.ensures.moments c.write_recording-written.ensures.content c.args.caller c.in-Ok.ensures.written c.replies_of-replies.result.0 c.replies_of-replies.ensures.first)
     goes.1
