@@ -4,7 +4,8 @@ use Rattle.std.specs.Prelude.{MatchResult, IfOk, IfErr, IsErr}
 use Rattle.std.specs.List.{list_all}
 use Rattle.std.proofs.lemmas.Bool.{ltb-true}
 use Rattle.voice_units.proofs.PiecesOfRopes.{both}
-use Rattle.voice_model.specs.Spelling.{number_at, at_kind, change_in, fits, Spells}
+use Rattle.disk_areas.specs.Numbers.{number_at}
+use Rattle.voice_model.specs.Spelling.{at_kind, change_in, fits, Spells}
 use Rattle.voice_model.specs.declared.changes.Change.{Change}
 use Rattle.voice_model.proofs.ReadAgain.{spelled_is_read, read_is_spelled}
 use Rattle.change_codec.specs.declared.errors.GetError.{GetError}

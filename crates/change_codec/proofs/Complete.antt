@@ -7,7 +7,8 @@ use Rattle.voice_units.specs.declared.pieces.Piece.{Piece}
 use Rattle.voice_units.specs.Spots.{samples_in}
 use Rattle.voice_units.proofs.PiecesOfRopes.{both}
 use Rattle.voice_model.specs.declared.lists.Pair.{Pair}
-use Rattle.voice_model.specs.Spelling.{number_at, number_bytes, piece_bytes, pieces_bytes, text_bytes, pair_bytes, fits, is_id, is_piece, are_apart, are_pieces, is_key, rise}
+use Rattle.disk_areas.specs.Numbers.{number_at, number_bytes}
+use Rattle.voice_model.specs.Spelling.{piece_bytes, pieces_bytes, text_bytes, pair_bytes, fits, is_id, is_piece, are_apart, are_pieces, is_key, rise}
 use Rattle.change_codec.specs.declared.items.Rising.{Rising}
 use Rattle.change_codec.specs.declared.items.Run.{Run}
 use Rattle.change_codec.specs.Refused.{first, number, part, behind, each, addresses_place, next_id, ids_place, pair_place, next_pair, pairs_place, continues, piece_place, piece_in, past, next_piece, run_place, pieces_place, key_place, next_key, keys_place}

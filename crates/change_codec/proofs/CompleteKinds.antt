@@ -5,8 +5,9 @@ use Rattle.std.specs.List.{list_all}
 use Rattle.std.proofs.lemmas.Bool.{leb-true, ltb-true, eqb-true}
 use Rattle.voice_units.specs.declared.pieces.Piece.{Piece}
 use Rattle.voice_units.proofs.PiecesOfRopes.{both}
-use Rattle.voice_model.specs.State.{class_number, spelled_number}
-use Rattle.voice_model.specs.Spelling.{number_at, number_bytes, pieces_bytes, text_bytes, recorded_bytes, file_bytes, pair_bytes, spelling, keeps_grammar, Spells, change_in, class_of, fits, is_id, is_moment, is_next, are_pieces, is_key, is_note, is_recording, is_file, rise}
+use Rattle.disk_areas.specs.Numbers.{spelled_number, number_at, number_bytes}
+use Rattle.voice_model.specs.State.{class_number}
+use Rattle.voice_model.specs.Spelling.{pieces_bytes, text_bytes, recorded_bytes, file_bytes, pair_bytes, spelling, keeps_grammar, Spells, change_in, class_of, fits, is_id, is_moment, is_next, are_pieces, is_key, is_note, is_recording, is_file, rise}
 use Rattle.voice_model.specs.declared.lists.Pair.{Pair}
 use Rattle.voice_model.specs.declared.calls.Class.{Class}
 use Rattle.voice_model.specs.declared.calls.Class.TheVariants.{Held, Until, Listed}

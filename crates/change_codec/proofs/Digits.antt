@@ -1,8 +1,7 @@
 -- The numbers of byteorder are those of the spelling.
 use Rattle.std.proofs.Common.{◌≡◌, ℕ, zero, suc, ◌+◌, ◌-◌, ◌≤◌, List, [], ◌∷◌, length, drop, take, refl, ap, ◌∙◌, arith, length-drop}
 use Rattle.byteorder.specs.Endian.{big_number}
-use Rattle.voice_model.specs.State.{spelled_number}
-use Rattle.voice_model.specs.Spelling.{number_at}
+use Rattle.disk_areas.specs.Numbers.{spelled_number, number_at}
 
 two : (xs : List ℕ) → 2 ≤ length xs → big_number 2 xs ≡ spelled_number (take 2 xs)
 two [] h = absurd (omega arith)

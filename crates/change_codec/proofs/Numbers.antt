@@ -5,8 +5,7 @@ use Rattle.std.proofs.Math.Nat.{pow-succ'}
 use Rattle.std.proofs.Math.Seq.{take-append_seam, drop-append_seam}
 use Rattle.std.proofs.lemmas.Nat.{div-mul-add, mod-mul-add}
 use Rattle.std.proofs.lemmas.List.{take-append-drop, length-take-le}
-use Rattle.voice_model.specs.State.{spelled_number}
-use Rattle.voice_model.specs.Spelling.{number_at, number_bytes}
+use Rattle.disk_areas.specs.Numbers.{spelled_number, number_at, number_bytes}
 use Rattle.voice_model.proofs.ChangesOfEffects.{number_length}
 use Rattle.voice_model.proofs.ReadAgain.{read_number}
 

@@ -2,7 +2,7 @@
 use Rattle.std.proofs.Common.{◌≡◌, ℕ, ◌+◌, ◌≤◌, ◌<◌, Bool, true, false, ◌&&◌, cond, List, length, Some, None, refl, ap, ◌∙◌, arith}
 use Rattle.std.specs.Prelude.{nat_le, nat_lt}
 use Rattle.std.proofs.lemmas.Bool.Decides.{nat_tests}
-use Rattle.voice_model.specs.Spelling.{number_at}
+use Rattle.disk_areas.specs.Numbers.{number_at}
 use Rattle.change_codec.specs.Refused.{number, part, behind}
 
 leb : (m n : ℕ) → m ≤ n → nat_le m n ≡ true

@@ -1,7 +1,7 @@
 -- Items that are read one by one.
 use Rattle.std.proofs.Common.{◌≡◌, ℕ, suc, ◌+◌, ◌-◌, ◌<◌, ◌≤◌, List, [], ◌∷◌, ◌++◌, Some, None, refl, ap, sym, ◌∙◌, arith, append_assoc}
 use Rattle.std.specs.Prelude.{Option}
-use Rattle.voice_model.specs.Spelling.{number_at}
+use Rattle.disk_areas.specs.Numbers.{number_at}
 use Rattle.change_codec.specs.Refused.{first, each, next_key, number, place_at, places_by_kind, refused, IsPlace}
 use Rattle.change_codec.specs.Said.{values}
 use Rattle.change_codec.specs.declared.items.Rising.{Rising}

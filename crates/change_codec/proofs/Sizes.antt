@@ -6,7 +6,8 @@ use Rattle.std.proofs.lemmas.Bool.{ltb-true, leb-true}
 use Rattle.voice_units.specs.declared.pieces.Piece.{Piece}
 use Rattle.voice_units.proofs.PiecesOfRopes.{both}
 use Rattle.voice_model.specs.declared.lists.Pair.{Pair}
-use Rattle.voice_model.specs.Spelling.{number_bytes, piece_bytes, pieces_bytes, text_bytes, pair_bytes, recorded_bytes, file_bytes, is_key, is_file, is_id, fits, rise}
+use Rattle.disk_areas.specs.Numbers.{number_bytes}
+use Rattle.voice_model.specs.Spelling.{piece_bytes, pieces_bytes, text_bytes, pair_bytes, recorded_bytes, file_bytes, is_key, is_file, is_id, fits, rise}
 use Rattle.voice_model.proofs.ChangesOfEffects.{number_length, same_length, piece_length}
 
 pub pair_length : (width : ℕ) (pair : Pair) → length (pair_bytes width pair) ≡ 4 + width

@@ -4,7 +4,8 @@ use Rattle.std.specs.Prelude.{flat_map, nat_le, nat_lt}
 use Rattle.std.specs.List.{list_all}
 use Rattle.std.proofs.lemmas.Bool.Decides.{nat_tests}
 use Rattle.voice_units.specs.Spots.{samples_in}
-use Rattle.voice_model.specs.Spelling.{number_at, number_bytes, piece_bytes, pieces_bytes, text_bytes, pair_bytes, fits, is_id, is_piece, are_apart, are_pieces, is_key, rise}
+use Rattle.disk_areas.specs.Numbers.{number_at, number_bytes}
+use Rattle.voice_model.specs.Spelling.{piece_bytes, pieces_bytes, text_bytes, pair_bytes, fits, is_id, is_piece, are_apart, are_pieces, is_key, rise}
 use Rattle.change_codec.specs.declared.items.Rising.{Rising}
 use Rattle.change_codec.specs.declared.items.Run.{Run}
 use Rattle.change_codec.specs.Refused.{first, number, part, behind, each, addresses_place, next_id, ids_place, pair_place, next_pair, pairs_place, continues, piece_place, piece_in, next_piece, run_place, pieces_place, key_place, next_key, keys_place}

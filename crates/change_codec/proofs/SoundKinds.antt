@@ -4,8 +4,9 @@ use Rattle.std.specs.Prelude.{flat_map, nat_le}
 use Rattle.std.specs.List.{list_all}
 use Rattle.std.proofs.lemmas.Bool.{eq-eqb}
 use Rattle.voice_units.specs.Spots.{slice}
-use Rattle.voice_model.specs.State.{class_number, spelled_number}
-use Rattle.voice_model.specs.Spelling.{number_at, number_bytes, pieces_bytes, text_bytes, recorded_bytes, file_bytes, pair_bytes, spelling, keeps_grammar, Spells, at_kind, class_of, fits, is_id, is_moment, is_next, are_pieces, is_key, is_note, is_recording, is_file, rise}
+use Rattle.disk_areas.specs.Numbers.{spelled_number, number_at, number_bytes}
+use Rattle.voice_model.specs.State.{class_number}
+use Rattle.voice_model.specs.Spelling.{pieces_bytes, text_bytes, recorded_bytes, file_bytes, pair_bytes, spelling, keeps_grammar, Spells, at_kind, class_of, fits, is_id, is_moment, is_next, are_pieces, is_key, is_note, is_recording, is_file, rise}
 use Rattle.voice_model.specs.declared.changes.Change.{Change}
 use Rattle.change_codec.specs.declared.appending.Width.TheVariants.{Narrow, Wide}
 use Rattle.change_codec.specs.Refused.{number, part, behind, addresses_place, ids_place, pairs_place, next_pair, next_id, pieces_place, key_place, next_key, keys_place, note_place, recorded_place, edited_place, retained_place, forgotten_place, census_place, swept_place, advanced_place, base_place, file_place, rope_place, rope2_place, place_at, places_by_kind, refused}

@@ -6,7 +6,8 @@
 --     IsPlace, IsRefusal      what an error says of a place, and of the bytes
 use Rattle.std.specs.Prelude.{◌≡◌, ℕ, zero, suc, ◌+◌, ◌-◌, ◌^◌, max, Bool, ◌&&◌, cond, ◌==◌, nat_lt, nat_le, List, [], ◌∷◌, length, Option, Some, None}
 use Rattle.voice_model.specs.State.{class_number}
-use Rattle.voice_model.specs.Spelling.{number_at, class_of, change_in}
+use Rattle.disk_areas.specs.Numbers.{number_at}
+use Rattle.voice_model.specs.Spelling.{class_of, change_in}
 use Rattle.voice_units.specs.declared.pieces.Piece.{Piece}
 use Rattle.change_codec.specs.declared.items.Rising.{Rising}
 use Rattle.change_codec.specs.declared.items.Run.{Run}

@@ -6,7 +6,8 @@
 use Rattle.std.specs.Prelude.{ℕ, zero, suc, ◌+◌, List, [], ◌∷◌, Option, Some, None}
 use Rattle.voice_units.specs.declared.pieces.Piece.{Piece}
 use Rattle.voice_units.specs.Spots.{slice}
-use Rattle.voice_model.specs.Spelling.{number_at, class_of}
+use Rattle.disk_areas.specs.Numbers.{number_at}
+use Rattle.voice_model.specs.Spelling.{class_of}
 use Rattle.voice_model.specs.declared.changes.Change.{Change}
 use Rattle.voice_model.specs.declared.changes.Change.TheVariants as changes
 use Rattle.voice_model.specs.declared.lists.Pair.{Pair}

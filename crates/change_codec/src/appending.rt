@@ -2,7 +2,8 @@
 
 ghost use Rattle.std.specs.Prelude.{◌≡◌, ℕ, ◌+◌, ◌≤◌, ◌<◌, ◌++◌, length, flat_map, true, vec_len, vec_capacity};
 ghost use Rattle.std.specs.List.{list_all};
-ghost use Rattle.voice_model.specs.Spelling.{number_bytes, piece_bytes, pieces_bytes, text_bytes, pair_bytes, fits, is_key};
+ghost use Rattle.disk_areas.specs.Numbers.{number_bytes};
+ghost use Rattle.voice_model.specs.Spelling.{piece_bytes, pieces_bytes, text_bytes, pair_bytes, fits, is_key};
 ghost use Rattle.change_codec.specs.Widths.{bytes_of};
 
 use byteorder::{BigEndian, ByteOrder};

@@ -2,7 +2,7 @@
 
 ghost use Rattle.std.specs.Prelude.{◌≡◌, ℕ, ◌+◌, ◌≤◌, ◌^◌, length, None, IfOk, IfErr, MatchResult};
 ghost use Rattle.voice_units.specs.Spots.{slice};
-ghost use Rattle.voice_model.specs.Spelling.{number_at};
+ghost use Rattle.disk_areas.specs.Numbers.{number_at};
 ghost use Rattle.change_codec.specs.Refused.{number, part, behind, IsPlace};
 
 use super::errors::GetError;

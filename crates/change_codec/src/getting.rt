@@ -1,7 +1,8 @@
 //! The change that bytes spell.
 
 ghost use Rattle.std.specs.Prelude.{◌≡◌, ℕ, ◌+◌, ◌≤◌, length, None, Some, IfOk, IfErr, IsErr, MatchResult};
-ghost use Rattle.voice_model.specs.Spelling.{number_at, at_kind, change_in, Spells};
+ghost use Rattle.disk_areas.specs.Numbers.{number_at};
+ghost use Rattle.voice_model.specs.Spelling.{at_kind, change_in, Spells};
 ghost use Rattle.change_codec.specs.Refused.{place_at, places_by_kind, refused, IsPlace, IsRefusal};
 ghost use Rattle.change_codec.specs.Said.{said_by_kind};
 

@@ -9,10 +9,12 @@ mod items;
 mod kinds;
 pub mod laws;
 mod putting;
+mod short;
 
 pub use errors::GetError;
 pub use getting::get;
 pub use putting::{put, size};
+pub use short::{SHORT, advanced_bytes, forgotten_bytes};
 
 #[cfg(test)]
 mod tests;

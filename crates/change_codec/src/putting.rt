@@ -2,7 +2,8 @@
 
 ghost use Rattle.std.specs.Prelude.{◌≡◌, ℕ, ◌+◌, ◌≤◌, ◌<◌, ◌^◌, ◌++◌, length, flat_map, true, IsOk, OnOk, OnErr, vec_len, vec_capacity};
 ghost use Rattle.voice_model.specs.State.{class_number};
-ghost use Rattle.voice_model.specs.Spelling.{spelling, keeps_grammar, number_bytes, recorded_bytes, file_bytes, pieces_bytes, text_bytes, is_recording, is_file};
+ghost use Rattle.disk_areas.specs.Numbers.{number_bytes};
+ghost use Rattle.voice_model.specs.Spelling.{spelling, keeps_grammar, recorded_bytes, file_bytes, pieces_bytes, text_bytes, is_recording, is_file};
 ghost use Rattle.change_codec.specs.Widths.{bytes_of};
 
 use super::appending::{
@@ -50,7 +51,7 @@ pub fn size(change: &Change) -> u64
 }
 
 // The number of a class in a spelling.
-fn number_of(class: Class) -> u8
+pub(crate) fn number_of(class: Class) -> u8
     ensures { result ≡ class_number class }
 {
     match class {

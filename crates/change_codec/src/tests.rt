@@ -1,9 +1,11 @@
 //! The spellings of all kinds, and the places at which broken ones are refused.
 
-use super::{GetError, get, put, size};
+use super::{GetError, advanced_bytes, forgotten_bytes, get, put, size};
 use std::alloc::Global;
 use std::process::Abort;
 use std::test::Fail;
+use voice_model::Change;
+use voice_units::Moment;
 
 // No place is refused.
 const TAKEN: u64 = 7777;
@@ -305,4 +307,39 @@ fn texts_are_refused(rt: HostRuntime) {
         ),
         13
     );
+}
+
+// Whether the bytes in place are the spelling.
+fn is_in_place(alloc: Global, spelled: &[u8]) -> Result<bool, Fail> {
+    let Ok(change) = get(alloc, spelled) else {
+        return Ok(false);
+    };
+    match &change {
+        Change::Forgotten(class, key) => {
+            let bytes = forgotten_bytes(*class, key);
+            Ok(bytes.as_slice() == spelled)
+        }
+        Change::Advanced(moment) => Ok(advanced_bytes(*moment).as_slice() == spelled),
+        _ => Ok(false),
+    }
+}
+
+#[test]
+fn short_changes_stand_in_place(rt: HostRuntime) -> Result<(), Fail> {
+    let alloc = rt.alloc();
+    // keys of 1 and of 64 bytes
+    let mut longest = [0x6d; 67];
+    longest[0] = 4;
+    longest[1] = 2;
+    longest[2] = 64;
+    assert!(rt; is_in_place(alloc, &[4, 1, 1, 0x6d])?);
+    assert!(rt; is_in_place(alloc, &[4, 3, 2, 0, 255])?);
+    assert!(rt; is_in_place(alloc, &longest)?);
+    // moments 1 and 2^40
+    assert!(rt; is_in_place(alloc, &[7, 0, 0, 0, 0, 0, 0, 0, 1])?);
+    assert!(rt; is_in_place(alloc, &[7, 0, 0, 1, 0, 0, 0, 0, 0])?);
+    // moment 0 is no change, but its bytes have the form of one
+    let start: &[u8] = &[7, 0, 0, 0, 0, 0, 0, 0, 0];
+    assert!(rt; advanced_bytes(Moment(0)).as_slice() == start);
+    Ok(())
 }

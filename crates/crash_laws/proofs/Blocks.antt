@@ -2,7 +2,7 @@
 use Rattle.std.proofs.Common.{◌≡◌, ◌⊎◌, inl, inr, ℕ, ◌+◌, ◌*◌, ◌<◌, ◌≤◌, List, length, Bool, true, false, not, sym, ◌∙◌, ap, subst, arith}
 use Rattle.voice_units.specs.declared.shapes.Shape.{Shape}
 use Rattle.voice_outside.specs.Disk.{Told, AgreesOutside}
-use Rattle.voice_journal.specs.Image.{Journal}
+use Rattle.disk_areas.specs.Areas.{Journal}
 use Rattle.voice_journal.specs.Readings.{Reads, OtherIs, IsPending, data_start}
 use Rattle.voice_journal.specs.Places.{JournalValue, area_start, landed, commit_place, closed_after}
 use Rattle.voice_journal.specs.Stands.{Stands, IsReady, IsAt}

@@ -1,7 +1,7 @@
 -- A change of the journal, whether it appends or switches: done, in doubt, or failed before it counted.
 use Rattle.std.proofs.Common.{◌≡◌, ◌⊎◌, inl, inr, ⊎_elim, ℕ, List, [], ◌∷◌, ◌++◌, true, Option, Some, None, is_some, sym, ◌∙◌, ap, subst}
 use Rattle.voice_outside.specs.Disk.{Told, Now, Leaves}
-use Rattle.voice_journal.specs.Image.{Journal}
+use Rattle.disk_areas.specs.Areas.{Journal}
 use Rattle.voice_journal.specs.Readings.{Reads, SameElsewhere, Without, Within}
 use Rattle.voice_journal.specs.Places.{JournalValue, commit_place, closed_after}
 use Rattle.voice_journal.specs.Stands.{Stands, StandsInDoubt}

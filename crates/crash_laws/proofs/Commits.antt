@@ -1,7 +1,7 @@
 -- Appends and switches.
 use Rattle.std.proofs.Common.{◌≡◌, ℕ, ◌≤◌, ◌<◌, List, [], ◌∷◌, ◌++◌, map, true, None, is_some, refl, sym, ◌∙◌, subst}
 use Rattle.voice_outside.specs.Disk.{Told}
-use Rattle.voice_journal.specs.Image.{Journal}
+use Rattle.disk_areas.specs.Areas.{Journal}
 use Rattle.voice_units.specs.declared.shapes.Shape.{Shape}
 use Rattle.voice_journal.specs.Readings.{with_payload, switched, formatted, records_of}
 use Rattle.voice_journal.specs.Places.{JournalValue}
@@ -16,7 +16,7 @@ use Rattle.voice_model.specs.Base.{base_of, in_order}
 use Rattle.voice_model.specs.declared.calls.Entry.{Entry}
 use Rattle.voice_model.specs.declared.changes.Change.{Change}
 use Rattle.voice_model.specs.declared.changes.Change.TheVariants as changes
-use Rattle.journal_readings.specs.Readings.{same_record, Rebuild}
+use Rattle.journal_readings.specs.Readings.{Rebuild}
 use Rattle.crash_laws.specs.Standing.{StandsSure, IsLater, IsHeld}
 use Rattle.crash_laws.specs.Calls.{Does, Doubts, StaysWithin, IsChange, IsBase, IsCommitted, IsInDoubt}
 use Rattle.crash_laws.specs.Foundations.{Foundations}
@@ -44,7 +44,7 @@ acted_form b (changes.Rope2 id idle last pieces) is = cc
 
 -- what an area rebuilds does not depend on where it stands
 in_any_area : (r : Journal) (shape : Shape) → r.shape ≡ shape → (ps : List (List ℕ)) (end : Rebuilt) → Rebuild (switched r ps) end → Rebuild (switched (formatted shape) ps) end
-in_any_area r shape is ps end rebuilds = subst (λ (x : Shape). replayed (nothing_rebuilt x) (map same_record (records_of 16 ps)) ≡ Replayed.All end) is rebuilds
+in_any_area r shape is ps end rebuilds = subst (λ (x : Shape). replayed (nothing_rebuilt x) (records_of 16 ps) ≡ Replayed.All end) is rebuilds
 
 module _ (laws : Foundations) (old new : Told) (first : State) (tapes : List (List ℕ)) (t0 : ℕ) (journal journal' : JournalValue) (b after' : Rebuilt) (history : List Entry) (effect : Effect Tagged) (e : Entry)
     (is : IsLater old new) (held : IsHeld first tapes t0 journal old b after' history) (none : (after first tapes history).doubt ≡ None) (ack : e.ack ≡ new.calls) where

@@ -2,7 +2,7 @@
 use Rattle.std.proofs.Common.{◌≡◌, ◌⊎◌, inl, inr, ⊎_elim, ℕ, ◌≤◌, List, [], ◌∷◌, ◌++◌, length, true, Option, Some, is_some, refl, sym, ap, subst, ◌∙◌}
 use Rattle.voice_units.specs.declared.shapes.Shape.{Shape}
 use Rattle.voice_outside.specs.Disk.{Told, Now, Leaves}
-use Rattle.voice_journal.specs.Image.{Journal}
+use Rattle.disk_areas.specs.Areas.{Journal}
 use Rattle.voice_journal.specs.Readings.{Reads, WithinLand, NearOld}
 use Rattle.voice_journal.specs.Places.{JournalValue}
 use Rattle.voice_model.specs.State.{State, Pending}

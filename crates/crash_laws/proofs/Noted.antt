@@ -2,7 +2,7 @@
 use Rattle.std.proofs.Common.{◌≡◌, ◌⊎◌, inl, inr, ℕ, List, [], ◌∷◌, ◌++◌, length, take, Option, Some, None, is_some, sym, ◌∙◌, ap, subst, arith}
 use Rattle.std.specs.Prelude.{Result}
 use Rattle.voice_outside.specs.Disk.{Told, Now, ReadsAt, Syncs}
-use Rattle.voice_journal.specs.Image.{Journal}
+use Rattle.disk_areas.specs.Areas.{Journal}
 use Rattle.voice_journal.specs.Places.{JournalValue}
 use Rattle.voice_journal.specs.Looks.{Still}
 use Rattle.voice_model.specs.State.{State, Pending}

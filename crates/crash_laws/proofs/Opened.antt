@@ -1,7 +1,7 @@
 -- A disk that was opened, and what holds where a disk stands for a state.
 use Rattle.std.proofs.Common.{◌≡◌, inl, ℕ, zero, suc, ◌≤◌, List, [], Option, Some, None, refl, sym, ◌∙◌, subst, arith}
 use Rattle.voice_outside.specs.Disk.{Told}
-use Rattle.voice_journal.specs.Image.{Journal}
+use Rattle.disk_areas.specs.Areas.{Journal}
 use Rattle.voice_journal.specs.Places.{JournalValue}
 use Rattle.voice_journal.specs.Looks.{Since}
 use Rattle.voice_journal.specs.Opens.{IsOpened}

@@ -2,7 +2,7 @@
 use Rattle.std.proofs.Common.{◌≡◌, ◌⊎◌, inl, inr, ⊎_elim, ℕ, ◌*◌, ◌≤◌, List, length, true, Option, Some, None, is_some, refl, sym, ◌∙◌, ap, subst, arith}
 use Rattle.std.specs.Prelude.{Result}
 use Rattle.voice_outside.specs.Disk.{Told, IsTorn, WritesAt}
-use Rattle.voice_journal.specs.Image.{Journal}
+use Rattle.disk_areas.specs.Areas.{Journal}
 use Rattle.voice_units.specs.declared.shapes.Shape.{Shape}
 use Rattle.voice_journal.specs.Readings.{Reads, OtherIs, data_start}
 use Rattle.voice_journal.specs.Places.{JournalValue, commit_place, closed_after}

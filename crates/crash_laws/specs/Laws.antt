@@ -13,7 +13,7 @@
 --     LandingsCarry old new      a landing
 use Rattle.std.specs.Prelude.{◌≡◌, ℕ, ◌*◌, ◌≤◌, ◌<◌, List, [], ◌∷◌, ◌++◌, map, Some, None, is_some, true, IsTrue}
 use Rattle.voice_outside.specs.Disk.{Told}
-use Rattle.voice_journal.specs.Image.{Journal}
+use Rattle.disk_areas.specs.Areas.{Journal}
 use Rattle.voice_journal.specs.Readings.{with_payload, switched, formatted}
 use Rattle.voice_journal.specs.Places.{JournalValue}
 use Rattle.voice_journal.specs.Looks.{Still, Since}

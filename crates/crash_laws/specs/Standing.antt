@@ -10,7 +10,7 @@
 --     IsLater old new      two moments of an honest disk
 use Rattle.std.specs.Prelude.{◌≡◌, ℕ, ◌-◌, ◌≤◌, List, length, Option, Some, None}
 use Rattle.voice_outside.specs.Disk.{Told, Now}
-use Rattle.voice_journal.specs.Image.{Journal}
+use Rattle.disk_areas.specs.Areas.{Journal}
 use Rattle.voice_journal.specs.Places.{JournalValue}
 use Rattle.voice_journal.specs.Stands.{Stands, StandsInDoubt}
 use Rattle.voice_model.specs.State.{State, Pending, opened}

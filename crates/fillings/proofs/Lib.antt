@@ -7,4 +7,4 @@ pub mod Calls
 pub mod Counting
 pub mod RecordedBlocks
 pub mod Sizes
-pub mod PlacesUsed
+pub mod FilesBelow

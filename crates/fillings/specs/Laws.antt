@@ -9,7 +9,7 @@
 --     FillsAlike      images that differ only in the journal's areas, or only where no place is, fill alike
 --     Brings      a change that is replayed does, filled in, what it did in the server
 --     Alters      so does the change of a call that nothing refuses, and it may be replayed
---     SizesOfChanges      the size of the base after an edit and after a recording, and how many blocks are used by what is rebuilt
+--     SizesOfChanges      the size of the base after an edit and after a recording
 use Rattle.std.specs.Prelude.{◌≡◌, ℕ, ◌+◌, ◌*◌, ◌/◌, ◌%◌, ◌≤◌, ◌<◌, ◌==◌, true, false, cond, List, map, length, replicate, slice_index, Some, None}
 use Rattle.voice_units.specs.declared.shapes.Shape.{Shape}
 use Rattle.voice_units.specs.Spots.{slice, replaced}
@@ -17,9 +17,8 @@ use Rattle.voice_units.specs.Blocks.{blocks_for}
 use Rattle.voice_outside.specs.Disk.{AgreesOutside}
 use Rattle.voice_blocks.specs.Place.{block_place}
 use Rattle.voice_model.specs.Samples.{Tagged, spot_of, bytes_of, recording}
-use Rattle.voice_model.specs.State.{State, Durable, Live, Effect, quiet_lane, samples_of, joined}
+use Rattle.voice_model.specs.State.{State, Durable, Live, Effect, samples_of, joined}
 use Rattle.voice_model.specs.State.Effect.{Recorded, Edited}
-use Rattle.voice_model.specs.Room.{used}
 use Rattle.voice_model.specs.Changes.{effect_of, changed, address_size, rope_size, base_size}
 use Rattle.voice_model.specs.Step.{refusal}
 use Rattle.voice_model.specs.Replay.{Rebuilt, has_address, is_legal, acted, filled, effect_by, recovered}
@@ -98,5 +97,3 @@ pub record SizesOfChanges : Type 0 where
   pub recorded : (form : ℕ) (d : Durable Tagged) (id : ℕ) (bytes : List ℕ) → AreBelow id d.ropes → base_size form (changed form d (Recorded id (recording id bytes))) ≡ base_size form d + rope_size form (new_rope d id (recording id bytes)) + blocks_size form d.shape (length bytes)
   -- the next number of what is rebuilt is new
   pub below : (image : List ℕ) (b : Rebuilt) (id : ℕ) → IsPlaced b → b.next ≤ id → AreBelow id (recovered image b).ropes
-  -- where no lane holds anything and no change is in doubt, the used blocks are those with a place
-  pub used_by : (image : List ℕ) (b : Rebuilt) (s : State) (lanes : ℕ) → s.kept ≡ recovered image b → IsPlaced b → AllUsed b → s.lanes ≡ replicate lanes quiet_lane → s.doubt ≡ None → used s ≡ length b.places

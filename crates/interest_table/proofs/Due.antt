@@ -7,7 +7,8 @@ use Rattle.std.proofs.Math.Seq.{take-add}
 use Rattle.std.proofs.lemmas.List.Recursion.{is_count_by}
 use Rattle.std.specs.List.Sorted.{IsPermutation, IsNonDecreasingBy}
 use Rattle.std.specs.Prelude.{nat_le, nat_eq, unwrap_or}
-use Rattle.voice_model.specs.State.{class_number, spelled_number, row_at}
+use Rattle.disk_areas.specs.Numbers.{spelled_number}
+use Rattle.voice_model.specs.State.{class_number, row_at}
 use Rattle.voice_model.specs.Changes.{is_expired}
 use Rattle.voice_model.specs.declared.calls.Row.{Row}
 use Rattle.voice_model.specs.declared.calls.Class.{Class}
@@ -15,7 +16,7 @@ use Rattle.std.specs.Map.{lookup}
 use Rattle.indexmap.specs.IndexMap as index
 use Rattle.interest_table.specs.declared.listing.RowName.{RowName}
 use Rattle.interest_table.specs.declared.expiries.Expiry.{Expiry}
-use Rattle.interest_table.specs.Inside.{stamp_at, IsTimed, no_row, kept, entry_of, row_in, AllKept, is_due, place, place_of, among, without, Rises, AllFit, AreOrdered, IsDated, IsEntered, IsTaken, IsGained, IsLost, Leads, NoneDue, stamps_due, Grows, times}
+use Rattle.interest_table.specs.Inside.{stamp_at, IsTimed, no_row, kept, entry_of, row_in, AllKept, is_due, place, place_of, among, without, listed_of, Rises, AllFit, AreOrdered, IsDated, IsEntered, IsTaken, IsGained, IsLost, Leads, NoneDue, stamps_due, Grows, times}
 use Rattle.interest_table.proofs.Found.{both_ways}
 use Rattle.interest_table.proofs.Listed.{low_absent, was_among, stays_among, last_among, among_push, among_either, own_among, or_true, bool_either, below_top, still_listed, same_list, found_row}
 use Rattle.interest_table.proofs.Dated.{one_place}
@@ -43,7 +44,7 @@ among_fewer s t ts = bool_either (s == t) _
 pub row_kept : (at : ℕ → Option Row) (s : ℕ) (row : Row) → at s ≡ Some row → kept at s ≡ row
 row_kept at s row e = ap (λ (o : Option Row). unwrap_or o no_row) e
 
-same_kept : (at new : ℕ → Option Row) (s t : ℕ) → ((other : ℕ) → (s == other) ≡ false → new other ≡ at other) → (s == t) ≡ false → kept new t ≡ kept at t
+pub same_kept : (at new : ℕ → Option Row) (s t : ℕ) → ((other : ℕ) → (s == other) ≡ false → new other ≡ at other) → (s == t) ≡ false → kept new t ≡ kept at t
 same_kept at new s t same e = ap (λ (o : Option Row). unwrap_or o no_row) (same t e)
 
 turned : (s t : ℕ) → (s == t) ≡ (t == s)
@@ -59,7 +60,7 @@ same_place m n s t a b = both_ways _ _
     and_parts true b e = (refl, e)
     and_parts false b e = cc
 
-and_false : (a b : Bool) → b ≡ false → (a && b) ≡ false
+pub and_false : (a b : Bool) → b ≡ false → (a && b) ≡ false
 and_false true b e = e
 and_false false b e = refl
 
@@ -410,33 +411,29 @@ kept_at at (s ∷ ss) zero d h within = h.0
 kept_at at (s ∷ ss) (suc i) d h within = kept_at at ss i d h.1 (omega (arith, within))
 
 -- the list of parts whose entries are the same
-pub still_timed : {S T : Type 0} (names more : index.IndexMap RowName ℕ S) (rows new : index.IndexMap ℕ Row T) (ts us : List ℕ) (es all : List Expiry) (next : ℕ) → more.entries ≡ names.entries → new.entries ≡ rows.entries → us ≡ ts → all ≡ es → IsTimed (stamp_at names) (index.get nat_eq rows) ts es next → IsTimed (stamp_at more) (index.get nat_eq new) us all next
-still_timed names more rows new ts us es all next e f g d h = record {
+pub still_timed : {S T : Type 0} (names more : index.IndexMap RowName ℕ S) (rows new : index.IndexMap ℕ Row T) (ts us : List ℕ) (es all : List Expiry) (ls ks : List ℕ) (next : ℕ) → more.entries ≡ names.entries → new.entries ≡ rows.entries → us ≡ ts → all ≡ es → ks ≡ ls → IsTimed (stamp_at names) (index.get nat_eq rows) ts es ls next → IsTimed (stamp_at more) (index.get nat_eq new) us all ks next
+still_timed names more rows new ts us es all ls ks next e f g d k h = record {
   listing = still_listed names more rows new ts us next e f g h.listing;
   dated = subst (λ l. IsDated (index.get nat_eq new) us l) (sym d) (subst (λ l. IsDated (index.get nat_eq new) l es) (sym g) (subst (λ l. IsDated (λ s. lookup (nat_eq s) l) ts es) (sym f) h.dated));
+  apart = k ∙ h.apart ∙ sym (λ i. listed_of (λ s. lookup (nat_eq s) (f i)) (g i));
 }
 
 -- the list after names changed whose entries did not
-pub same_timed : {S : Type 0} (old new : index.IndexMap RowName ℕ S) (at : ℕ → Option Row) (ts : List ℕ) (es : List Expiry) (next : ℕ) → new.entries ≡ old.entries → IsTimed (stamp_at old) at ts es next → IsTimed (stamp_at new) at ts es next
-same_timed old new at ts es next same h = record { listing = same_list old new at ts next same h.listing; dated = h.dated }
+pub same_timed : {S : Type 0} (old new : index.IndexMap RowName ℕ S) (at : ℕ → Option Row) (ts : List ℕ) (es : List Expiry) (ls : List ℕ) (next : ℕ) → new.entries ≡ old.entries → IsTimed (stamp_at old) at ts es ls next → IsTimed (stamp_at new) at ts es ls next
+same_timed old new at ts es ls next same h = record { listing = same_list old new at ts next same h.listing; dated = h.dated; apart = h.apart }
 
 -- the row that is expired first
-pub first_row : (names : Class → List ℕ → Option ℕ) (at : ℕ → Option Row) (ts : List ℕ) (es : List Expiry) (next now s : ℕ) (row : Row) → IsTimed names at ts es next → Leads now s es → Some row ≡ at s → (is_expired now row ≡ true) × (row_at (map row_in (map (entry_of at) ts)) row.class row.key ≡ Some row)
-first_row names at ts es next now s row h lead found =
+pub first_row : (names : Class → List ℕ → Option ℕ) (at : ℕ → Option Row) (ts : List ℕ) (es : List Expiry) (ls : List ℕ) (next now s : ℕ) (row : Row) → IsTimed names at ts es ls next → Leads now s es → Some row ≡ at s → (is_expired now row ≡ true) × (row_at (map row_in (map (entry_of at) ts)) row.class row.key ≡ Some row)
+first_row names at ts es ls next now s row h lead found =
     let first = first_is now at ts es s h.dated lead in
     let its : kept at s ≡ row = row_kept at s row (sym found) in
     subst (λ r. (is_expired now r ≡ true) × (row_at (map row_in (map (entry_of at) ts)) r.class r.key ≡ Some r)) its
     (first.1, sym (found_row names at ts next h.listing (kept at s).class (kept at s).key s (h.listing.stands s first.0).1) ∙ (h.listing.stands s first.0).0)
 
 -- it is there
-pub first_there : (names : Class → List ℕ → Option ℕ) (at : ℕ → Option Row) (ts : List ℕ) (es : List Expiry) (next now s : ℕ) (P : Type 0) → IsTimed names at ts es next → Leads now s es → None ≡ at s → P
-first_there names at ts es next now s P h lead none = let stands = (h.listing.stands s (first_is now at ts es s h.dated lead).0).0 in cc
+pub first_there : (names : Class → List ℕ → Option ℕ) (at : ℕ → Option Row) (ts : List ℕ) (es : List Expiry) (ls : List ℕ) (next now s : ℕ) (P : Type 0) → IsTimed names at ts es ls next → Leads now s es → None ≡ at s → P
+first_there names at ts es ls next now s P h lead none = let stands = (h.listing.stands s (first_is now at ts es s h.dated lead).0).0 in cc
 
 -- where none is expired, all stay
-pub none_first_row : (names : Class → List ℕ → Option ℕ) (at : ℕ → Option Row) (ts : List ℕ) (es : List Expiry) (next now : ℕ) → now < 2 ^ 64 → IsTimed names at ts es next → NoneDue now es → filter (λ (e : ℕ × Row). not (is_expired now e.1)) (map (entry_of at) ts) ≡ map (entry_of at) ts
-none_first_row names at ts es next now least h none = none_go now at ts (λ s k. let below = below_top s 0 next ts h.listing.rising k in none_is now at ts es least h.dated none s (omega (arith, below, h.listing.limit)) k)
-
--- each stamp of a list has a row
-pub each_kept : (at : ℕ → Option Row) (ts : List ℕ) → ((s : ℕ) → among s ts ≡ true → at s ≡ Some (kept at s)) → AllKept at ts
-each_kept at [] h = tt
-each_kept at (t ∷ ts) h = (h t (own_among t ts), each_kept at ts (λ s k. h s (or_true (s == t) (among s ts) k)))
+pub none_first_row : (names : Class → List ℕ → Option ℕ) (at : ℕ → Option Row) (ts : List ℕ) (es : List Expiry) (ls : List ℕ) (next now : ℕ) → now < 2 ^ 64 → IsTimed names at ts es ls next → NoneDue now es → filter (λ (e : ℕ × Row). not (is_expired now e.1)) (map (entry_of at) ts) ≡ map (entry_of at) ts
+none_first_row names at ts es ls next now least h none = none_go now at ts (λ s k. let below = below_top s 0 next ts h.listing.rising k in none_is now at ts es least h.dated none s (omega (arith, below, h.listing.limit)) k)

@@ -6,3 +6,4 @@ pub mod Listed
 pub mod Goes
 pub mod Dated
 pub mod Due
+pub mod Census

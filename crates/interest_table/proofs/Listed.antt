@@ -279,7 +279,7 @@ list_left names left at new class key s ts us next h found fewer gone is =
 
 -- ---- a row comes last
 
-below_apart : (s t : ℕ) → t < s → (s == t) ≡ false
+pub below_apart : (s t : ℕ) → t < s → (s == t) ≡ false
 below_apart s t h = by (s == t) refl
   where
     by : (b : Bool) → (s == t) ≡ b → b ≡ false

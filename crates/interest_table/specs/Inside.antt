@@ -19,9 +19,12 @@
 --     Grows low numbers      numbers do not fall, from low on
 --     times      how often a number stands in a list
 --     IsDueStamps now expiries stamps      the stamps of the expiries that are due, rising
+--     is_listed      whether a row is of class Listed
+--     listed_of at stamps      the stamps of those whose rows are
+--     IsDelisted      the stamps of the rows of class Listed once a row went
 --     Listing      the rows with their stamps, the next stamp, and how many more rows fit without memory
 --     IsListing names at stamps next      what each list of rows keeps
---     IsTimed names at stamps expiries next      what it keeps with its expiries
+--     IsTimed names at stamps expiries listed next      what it keeps with its expiries and the stamps of its rows of class Listed
 --     AreShort rows      keys have at most 64 bytes, and notes 128
 --     rows_counted counts rope      how many rows of a rope were counted
 --     IsTold tally rows      a tally tells of these rows
@@ -35,7 +38,8 @@ use Rattle.counted_row.specs.Row as counted
 use Rattle.voice_model.specs.declared.calls.Row.{Row}
 use Rattle.voice_model.specs.declared.calls.Class.{Class}
 use Rattle.voice_model.specs.declared.calls.Class.TheVariants.{Held}
-use Rattle.voice_model.specs.State.{class_number, is_row, spelled_number}
+use Rattle.disk_areas.specs.Numbers.{spelled_number}
+use Rattle.voice_model.specs.State.{class_number, is_row}
 use Rattle.voice_model.specs.Valid.{Once}
 use Rattle.interest_table.specs.declared.listing.RowName.{RowName}
 use Rattle.interest_table.specs.declared.expiries.Expiry.{Expiry}
@@ -167,6 +171,18 @@ pub record IsDueStamps (now : ℕ) (expiries : List Expiry) (stamps : List ℕ) 
   pub rising : Grows 0 stamps
   pub same : AreOrdered expiries → (stamp : ℕ) → times stamp stamps ≡ times stamp (stamps_due now expiries)
 
+-- whether a row is of class Listed
+abbrev pub is_listed : Row → Bool
+is_listed row = class_number row.class == 3
+
+-- the stamps of those whose rows are
+abbrev pub listed_of : (ℕ → Option Row) → List ℕ → List ℕ
+listed_of at stamps = filter (λ stamp. is_listed (kept at stamp)) stamps
+
+-- the stamps of the rows of class Listed once the row of a stamp went
+abbrev pub IsDelisted : Row → ℕ → List ℕ → List ℕ → Type 0
+IsDelisted row stamp old new = (top : ℕ) → Rises 0 old top → among stamp old ≡ is_listed row → new ≡ without stamp old
+
 -- the rows with their stamps, the next stamp, and how many more rows fit without memory
 pub record Listing : Type 0 where
   pub entries : List (ℕ × Row)
@@ -174,11 +190,11 @@ pub record Listing : Type 0 where
   pub spare : ℕ
 
 -- the list of these parts
-abbrev pub listed : {S T : Type 0} → index.IndexMap RowName ℕ S → index.IndexMap ℕ Row T → counted.Row ℕ → counted.Row Expiry → ℕ → Listing
-listed names rows order expiries next = record {
+abbrev pub list_of : {S T : Type 0} → index.IndexMap RowName ℕ S → index.IndexMap ℕ Row T → counted.Row ℕ → counted.Row Expiry → counted.Row ℕ → ℕ → Listing
+list_of names rows order expiries listed next = record {
   entries = map (entry_of (index.get nat_eq rows)) order.items;
   next = next;
-  spare = min (min (index.spare names) (index.spare rows)) (min (min order.spare expiries.spare) (2 ^ 63 - next));
+  spare = min (min (index.spare names) (index.spare rows)) (min (min order.spare (min expiries.spare listed.spare)) (2 ^ 63 - next));
 }
 
 -- each stamp has a row, which is found under its class and key; what is found there is a stamp of the list
@@ -188,10 +204,11 @@ pub record IsListing (names : Class → List ℕ → Option ℕ) (at : ℕ → O
   pub known : (class : Class) (key : List ℕ) (s : ℕ) → names class key ≡ Some s → (among s stamps ≡ true) × (is_row class key (kept at s) ≡ true)
   pub limit : next ≤ 2 ^ 63
 
--- what a list keeps with its expiries
-pub record IsTimed (names : Class → List ℕ → Option ℕ) (at : ℕ → Option Row) (stamps : List ℕ) (expiries : List Expiry) (next : ℕ) : Type 0 where
+-- what a list keeps with its expiries and the stamps of its rows of class Listed
+pub record IsTimed (names : Class → List ℕ → Option ℕ) (at : ℕ → Option Row) (stamps : List ℕ) (expiries : List Expiry) (listed : List ℕ) (next : ℕ) : Type 0 where
   pub listing : IsListing names at stamps next
   pub dated : IsDated at stamps expiries
+  pub apart : listed ≡ listed_of at stamps
 
 -- keys have at most 64 bytes, and notes 128
 abbrev pub AreShort : List Row → Type 0

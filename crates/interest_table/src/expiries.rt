@@ -1,7 +1,7 @@
 //! The rows of class Until by their moments. A row whose note spells no number below 2^64 never expires.
 
 ghost use Rattle.std.specs.Prelude.{◌≡◌, ℕ, ◌<◌, ◌≤◌, ◌+◌, ◌^◌, ◌++◌, map, take, filter, nat_lt, nat_le, IfOk, OnOk, IfSome, IfNone};
-ghost use Rattle.voice_model.specs.State.{spelled_number};
+ghost use Rattle.disk_areas.specs.Numbers.{spelled_number};
 ghost use Rattle.interest_table.specs.Inside.{is_due, is_that, place_of, AreOrdered, IsEntered, IsTaken, IsGained, IsLost, Leads, NoneDue, IsDueStamps};
 
 use counted_row::CountedRow;

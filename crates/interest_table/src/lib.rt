@@ -6,6 +6,7 @@ mod gather;
 mod going;
 mod listing;
 mod rows;
+mod stamps;
 mod tally;
 
 pub use going::key_set;

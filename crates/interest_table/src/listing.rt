@@ -4,12 +4,13 @@ ghost use Rattle.std.specs.Prelude.{◌≡◌, ℕ, ◌<◌, ◌≤◌, ◌+◌,
 ghost use Rattle.indexmap.specs.IndexMap.{get, spare};
 ghost use Rattle.voice_model.specs.State.{is_row, row_at};
 ghost use Rattle.voice_model.specs.declared.calls.Class.{Class as AnyClass};
-ghost use Rattle.interest_table.specs.Inside.{row_in, same_name, stamp_at, among, without, Rises, IsLost};
+ghost use Rattle.interest_table.specs.Inside.{row_in, same_name, stamp_at, IsLost, IsDelisted};
 ghost use Rattle.interest_table.specs.Table.{expired_keys, expired_owners};
 ghost use Rattle.voice_model.specs.Changes.{is_expired, unlisted_keys};
 
 use crate::expiries::{Expiry, due_stamps, first_due, gain_expiry, lose_expiry};
 use crate::gather::{keys_under, push_absent, ropes_under};
+use crate::stamps::{gain_listed, lose_listed, put_stamp, take_stamp};
 use counted_row::CountedRow;
 use indexmap::IndexMap;
 use std::alloc::Global;
@@ -35,6 +36,7 @@ pub(crate) struct Listing {
     rows: IndexMap<u64, Row>,
     order: CountedRow<u64>,
     expiries: CountedRow<Expiry>,
+    listed: CountedRow<u64>,
     next: u64,
 }
 
@@ -45,9 +47,9 @@ impl Model for Listing {
 
     ghost Value = { inside.Listing };
 
-    ghost view = { λ l. inside.listed l.names l.rows l.order l.expiries l.next };
+    ghost view = { λ l. inside.list_of l.names l.rows l.order l.expiries l.listed l.next };
 
-    ghost invariant = { λ l. inside.IsTimed (inside.stamp_at l.names) (get nat_eq l.rows) l.order.items l.expiries.items l.next };
+    ghost invariant = { λ l. inside.IsTimed (inside.stamp_at l.names) (get nat_eq l.rows) l.order.items l.expiries.items l.listed.items l.next };
 }
 
 /// The stamp under a class and key.
@@ -89,41 +91,26 @@ fn put_row(rows: &mut IndexMap<u64, Row>, stamp: u64, row: Row)
     };
 }
 
-/// Puts a stamp last, where there is room.
-fn put_stamp(order: &mut CountedRow<u64>, stamp: u64)
-    requires { 0 < order.old.spare }
-    ensures items { order.new.items ≡ order.old.items ++ stamp ∷ [] }
-    ensures spare { order.old.spare ≤ order.new.spare + 1 }
-{
-    let Ok(()) = order.push(stamp) else {
-        return;
-    };
-}
-
-/// Takes out a stamp that is there.
-fn take_stamp(order: &mut CountedRow<u64>, stamp: u64)
-    ensures items { (top : ℕ) → Rises 0 order.old.items top → among stamp order.old.items ≡ true → order.new.items ≡ without stamp order.old.items }
-    ensures spare { order.old.spare ≤ order.new.spare }
-{
-    order.remove_at_point(|other| *other < stamp);
-}
-
-/// Takes out the row of a stamp, with its expiry.
+/// Takes out the row of a stamp, with its expiry and from among those of class Listed.
 fn take_row(
     rows: &mut IndexMap<u64, Row>,
     expiries: &mut CountedRow<Expiry>,
+    listed: &mut CountedRow<u64>,
     stamp: u64,
 ) -> Option<Row>
     ensures value { result ≡ get nat_eq rows.old stamp }
     ensures rows { (other : ℕ) → get nat_eq rows.new other ≡ cond (nat_eq stamp other) None (get nat_eq rows.old other) }
     ensures expiries { IfSome result (λ row. IsLost row stamp expiries.old.items expiries.new.items) }
+    ensures listed { IfSome result (λ row. IsDelisted row stamp listed.old.items listed.new.items) }
     ensures spare { spare rows.old ≤ spare rows.new }
     ensures room { expiries.old.spare ≤ expiries.new.spare }
+    ensures place { listed.old.spare ≤ listed.new.spare }
 {
     let Some(row) = rows.swap_remove(&stamp) else {
         return None;
     };
     lose_expiry(expiries, &row, stamp);
+    lose_listed(listed, &row, stamp);
     Some(row)
 }
 
@@ -175,6 +162,7 @@ impl Listing {
             rows: IndexMap::new(alloc),
             order: CountedRow::new(alloc),
             expiries: CountedRow::new(alloc),
+            listed: CountedRow::new(alloc),
             next: 0,
         }
     }
@@ -248,14 +236,14 @@ impl Listing {
         ropes_under(&self.rows, &stamps)
     }
 
-    /// The keys of the first 65,535 rows of class Listed that are not named, in order of making.
+    /// The keys of the first 65,535 rows of class Listed that are not named, in order of making. It looks at the rows of that class alone.
     pub(crate) fn absent_keys(&self, named: &HashSet<Key>) -> Result<Vec<Key>, NoMemory>
         ensures { IfOk result (λ keys. keys.items ≡ unlisted_keys (map row_in self.now.entries) named.now.keys) }
     {
-        let _len = self.order.len();
+        let _len = self.listed.len();
         let mut keys = Vec::new(*self.names.allocator());
         let mut place = 0;
-        while let Some(run) = self.order.run(place) {
+        while let Some(run) = self.listed.run(place) {
             push_absent(&mut keys, &self.rows, run, named)?;
             place += run.len();
         }
@@ -272,7 +260,7 @@ impl Listing {
             return None;
         };
         take_stamp(&mut self.order, stamp);
-        take_row(&mut self.rows, &mut self.expiries, stamp)
+        take_row(&mut self.rows, &mut self.expiries, &mut self.listed, stamp)
     }
 
     /// Makes room for n more rows. It takes no memory where that room is there.
@@ -289,6 +277,7 @@ impl Listing {
         self.rows.reserve(n as usize)?;
         self.order.reserve(n as usize)?;
         self.expiries.reserve(n as usize)?;
+        self.listed.reserve(n as usize)?;
         Ok(())
     }
 
@@ -302,6 +291,7 @@ impl Listing {
         let stamp = self.next;
         put_name(&mut self.names, row.class, &row.key, stamp);
         gain_expiry(&mut self.expiries, &row, stamp);
+        gain_listed(&mut self.listed, &row, stamp);
         put_row(&mut self.rows, stamp, row);
         put_stamp(&mut self.order, stamp);
         self.next += 1;
@@ -315,11 +305,13 @@ impl Listing {
         let rows = copied_rows(&self.rows)?;
         let order = copied(*self.names.allocator(), &self.order)?;
         let expiries = copied(*self.names.allocator(), &self.expiries)?;
+        let listed = copied(*self.names.allocator(), &self.listed)?;
         Ok(Listing {
             names,
             rows,
             order,
             expiries,
+            listed,
             next: self.next,
         })
     }

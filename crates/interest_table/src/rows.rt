@@ -189,7 +189,7 @@ impl InterestTable {
         self.listing.expired_ropes(now)
     }
 
-    /// The keys of the first 65,535 rows of class Listed that a census does not name, in order of making.
+    /// The keys of the first 65,535 rows of class Listed that a census does not name, in order of making. It looks at the rows of that class alone.
     pub fn obsolete_listed(&self, census: &KeyList) -> Result<KeyList, NoMemory>
         ensures { IfOk result (λ keys. keys ≡ unlisted_keys self.now.rows census.now) }
     {

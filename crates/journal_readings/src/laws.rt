@@ -1,11 +1,6 @@
 //! Laws of what a journal's readings mean, for the crates above. Each is the contract of a function, so that the check keeps it and a proof above may cite it.
 
-ghost use Rattle.journal_readings.specs.Laws.{ReadsAlike, Opens, OpensEmpty, Damages, RebuildsValid, RebuildsOnce, RebuildsMore, RebuildsBase};
-
-/// The journal reads an image as the definition does.
-pub fn reads_alike()
-    ensures { ReadsAlike }
-{}
+ghost use Rattle.journal_readings.specs.Laws.{Opens, OpensEmpty, Damages, RebuildsValid, RebuildsOnce, RebuildsMore, RebuildsBase};
 
 /// An image that reads opens as what its records rebuild, filled from it.
 pub fn opens()

@@ -1,5 +1,6 @@
 -- What is ready of a call that nothing refuses, but perhaps the journal, may follow, and does where the journal is read again what the call did.
 use Rattle.std.proofs.Common.{◌≡◌, ℕ, ◌+◌, false, List, [], length, Option, Some, None, refl, sym, ◌∙◌, ap, subst}
+use Rattle.voice_units.specs.declared.pieces.Piece.{Piece}
 use Rattle.voice_units.specs.Spots.{Spot}
 use Rattle.voice_model.specs.Samples.{Tagged, spot_of}
 use Rattle.voice_model.specs.State.{State, Durable, Effect}
@@ -17,7 +18,7 @@ use Rattle.voice_model.proofs.LegalOfCalls.{made_of_call, legal_early}
 use Rattle.voice_model.proofs.LegalInReplay.{acted_again}
 use Rattle.voice_model.proofs.ChangesOfEffects.{size_again}
 use Rattle.recovery.specs.declared.parts.Parts.{Parts}
-use Rattle.recovery.specs.Shown.{Rebuilds}
+use Rattle.running_tables.specs.Running.{Runs}
 use Rattle.ready_changes.specs.Ready.{IsReady, MayBeReady, change_for}
 use Rattle.ready_changes.specs.declared.ReadyChange.{ReadyChange}
 use Rattle.next_changes.specs.Laws.{Keeps}
@@ -39,13 +40,13 @@ names_none (Counted keys) e = record { change = λ form. refl; free = λ b. tt; 
 names_none (Swept ids) e = record { change = λ form. refl; free = λ b. tt; addresses = λ block. tt; again = λ fill. refl }
 names_none (Advanced moment) e = record { change = λ form. refl; free = λ b. tt; addresses = λ block. tt; again = λ fill. refl }
 
-pub of_call : (fill : Spot → Tagged) → ((x : Spot) → spot_of (fill x) ≡ x) → (parts : Parts) (b : Rebuilt) (s : State) (tapes : List (List ℕ)) (call : Call) (ready : ReadyChange)
-    → Rebuilds parts b → durable_by fill b.kept ≡ s.kept → b.form ≡ s.form → IsState s → InRange call → first_of (all_but_last (conditions s tapes call)) ≡ None
+pub of_call : (held : List (List Piece)) (takings : List ℕ) (fill : Spot → Tagged) → ((x : Spot) → spot_of (fill x) ≡ x) → (parts : Parts) (b : Rebuilt) (s : State) (tapes : List (List ℕ)) (call : Call) (ready : ReadyChange)
+    → Runs held [] takings parts b → durable_by fill b.kept ≡ s.kept → b.form ≡ s.form → IsState s → InRange call → first_of (all_but_last (conditions s tapes call)) ≡ None
     → MayBeReady parts.interests.spare b.kept (Some ready) (change_for (effect_of s tapes call))
-    → Keeps fill parts b s ready (effect_of s tapes call)
-of_call fill same parts b s tapes call ready rebuilds kept form valid range free may = by (effect_of s tapes call) refl may
+    → Keeps held takings fill parts b s ready (effect_of s tapes call)
+of_call held takings fill same parts b s tapes call ready runs kept form valid range free may = by (effect_of s tapes call) refl may
   where
-    by : (o : Option (Effect Tagged)) → effect_of s tapes call ≡ o → MayBeReady parts.interests.spare b.kept (Some ready) (change_for o) → Keeps fill parts b s ready o
+    by : (o : Option (Effect Tagged)) → effect_of s tapes call ≡ o → MayBeReady parts.interests.spare b.kept (Some ready) (change_for o) → Keeps held takings fill parts b s ready o
     by None e h = absurd h
     by (Some effect) e h =
         let none = names_none effect (plain parts.interests.spare b.kept ready.act (change_of 2 [] effect) h.does).no_rope in
@@ -53,7 +54,7 @@ of_call fill same parts b s tapes call ready rebuilds kept form valid range free
         record {
           effect = effect;
           is = refl;
-          next = other_next parts b ready (change_of b.form [] effect) rebuilds legal (subst (λ (c : Change). IsReady parts.interests.spare b.kept ready c) (none.change b.form) h);
+          next = other_next held takings parts b ready (change_of b.form [] effect) runs legal (subst (λ (c : Change). IsReady parts.interests.spare b.kept ready c) (none.change b.form) h);
           does =
               acted_again fill same b [] effect (made_of_call s tapes call effect e) (none.again fill)
               ∙ ap (λ (n : ℕ). changed n (durable_by fill b.kept) effect) form

@@ -3,8 +3,8 @@
 ghost use Rattle.std.specs.Prelude.{◌≡◌, true, IfOk, MatchOption};
 ghost use Rattle.voice_model.specs.Spelling.{keeps_grammar};
 ghost use Rattle.voice_model.specs.declared.changes.Change.TheVariants as changes;
-ghost use Rattle.recovery.specs.Shown.{IsParts};
-ghost use Rattle.next_changes.specs.Next.{IsNextIn};
+ghost use Rattle.running_tables.specs.Running.{AtRest};
+ghost use Rattle.next_changes.specs.Next.{IsNextAtRest};
 
 use super::{NextChange, give_back, parts_after, perform};
 use change_codec::get;
@@ -34,15 +34,15 @@ fn small_shape() -> Result<Shape, BadShape> {
 }
 
 fn empty_parts(alloc: Global, shape: &Shape) -> Result<Parts, NoMemory>
-    ensures { IfOk result (λ parts. IsParts shape.now parts) }
+    ensures { IfOk result (λ parts. AtRest shape.now parts) }
 {
     Parts::empty(alloc, shape)
 }
 
 // A recording of 20 samples.
 fn record(parts: &mut Parts, alloc: Global, shape: &Shape) -> Option<NextChange>
-    requires { IsParts shape.now parts.old }
-    ensures { MatchOption result (IsParts shape.now parts.new) (λ next. IsNextIn shape.now parts.new next) }
+    requires { AtRest shape.now parts.old }
+    ensures { MatchOption result (AtRest shape.now parts.new) (λ next. IsNextAtRest shape.now parts.new next) }
 {
     if parts.next > 1 << 48 {
         return None;
@@ -58,9 +58,9 @@ fn record(parts: &mut Parts, alloc: Global, shape: &Shape) -> Option<NextChange>
 
 // A row, if its rope lives and its class and key do not stand.
 fn retain_row(parts: &mut Parts, alloc: Global, shape: &Shape, row: Row) -> Option<NextChange>
-    requires shown { IsParts shape.now parts.old }
+    requires shown { AtRest shape.now parts.old }
     requires grammar { keeps_grammar (changes.Retained row.class row.key row.rope row.note) ≡ true }
-    ensures { MatchOption result (IsParts shape.now parts.new) (λ next. IsNextIn shape.now parts.new next) }
+    ensures { MatchOption result (AtRest shape.now parts.new) (λ next. IsNextAtRest shape.now parts.new next) }
 {
     let Some(_) = parts.ropes.wait(row.rope) else {
         return None;
@@ -76,8 +76,8 @@ fn retain_row(parts: &mut Parts, alloc: Global, shape: &Shape, row: Row) -> Opti
 
 // The row of rope 1.
 fn retain(parts: &mut Parts, alloc: Global, shape: &Shape) -> Option<NextChange>
-    requires { IsParts shape.now parts.old }
-    ensures { MatchOption result (IsParts shape.now parts.new) (λ next. IsNextIn shape.now parts.new next) }
+    requires { AtRest shape.now parts.old }
+    ensures { MatchOption result (AtRest shape.now parts.new) (λ next. IsNextAtRest shape.now parts.new next) }
 {
     let Ok(change) = get(alloc, &HELD) else {
         return None;
@@ -97,14 +97,11 @@ fn retain(parts: &mut Parts, alloc: Global, shape: &Shape) -> Option<NextChange>
 }
 
 // Moment 60.
-fn advance(parts: &mut Parts, alloc: Global, shape: &Shape) -> Option<NextChange>
-    requires { IsParts shape.now parts.old }
-    ensures { MatchOption result (IsParts shape.now parts.new) (λ next. IsNextIn shape.now parts.new next) }
+fn advance(parts: &mut Parts, shape: &Shape) -> Option<NextChange>
+    requires { AtRest shape.now parts.old }
+    ensures { MatchOption result (AtRest shape.now parts.new) (λ next. IsNextAtRest shape.now parts.new next) }
 {
-    let Ok(ready) = ready_advance(alloc, parts.moment, Moment(60)) else {
-        return None;
-    };
-    let Some(ready) = ready else {
+    let Some(ready) = ready_advance(parts.moment, Moment(60)) else {
         return None;
     };
     Some(NextChange::Other(ready))
@@ -119,13 +116,13 @@ enum Ask {
 }
 
 fn ready(parts: &mut Parts, alloc: Global, shape: &Shape, ask: Ask) -> Option<NextChange>
-    requires { IsParts shape.now parts.old }
-    ensures { MatchOption result (IsParts shape.now parts.new) (λ next. IsNextIn shape.now parts.new next) }
+    requires { AtRest shape.now parts.old }
+    ensures { MatchOption result (AtRest shape.now parts.new) (λ next. IsNextAtRest shape.now parts.new next) }
 {
     match ask {
         Ask::Record => record(parts, alloc, shape),
         Ask::Retain => retain(parts, alloc, shape),
-        Ask::Advance => advance(parts, alloc, shape),
+        Ask::Advance => advance(parts, shape),
     }
 }
 
@@ -141,7 +138,7 @@ fn counts(parts: &Parts) -> [u64; 4] {
 
 // The counts of the tables after a change.
 fn counts_after(alloc: Global, parts: &Parts, shape: &Shape, next: &NextChange) -> [u64; 4]
-    requires { IsNextIn shape.now parts.now next.now }
+    requires { IsNextAtRest shape.now parts.now next.now }
 {
     match parts_after(alloc, parts, shape, next) {
         Ok(after) => counts(&after),
@@ -151,8 +148,8 @@ fn counts_after(alloc: Global, parts: &Parts, shape: &Shape, next: &NextChange) 
 
 // The change is done, or given back.
 fn finish(parts: &mut Parts, shape: &Shape, next: NextChange, comes: bool)
-    requires { IsNextIn shape.now parts.old next }
-    ensures { IsParts shape.now parts.new }
+    requires { IsNextAtRest shape.now parts.old next }
+    ensures { AtRest shape.now parts.new }
 {
     if comes {
         perform(parts, shape, next);
@@ -169,8 +166,8 @@ fn asked(
     ask: Ask,
     comes: bool,
 ) -> ([u64; 2], [u64; 4])
-    requires { IsParts shape.now parts.old }
-    ensures { IsParts shape.now parts.new }
+    requires { AtRest shape.now parts.old }
+    ensures { AtRest shape.now parts.new }
 {
     let Some(next) = ready(parts, alloc, shape, ask) else {
         return ([REFUSED; 2], [REFUSED; 4]);

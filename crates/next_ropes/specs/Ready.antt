@@ -2,19 +2,22 @@
 --     recorded_change form id len addresses      the change of a recording, as the journal keeps it in an area of that form
 --     next_change form next      its change, as the journal keeps it in an area of that form
 --     new_samples c      the samples of the rope that a change brings
---     IsReady parts b next c      the tables show what was rebuilt and hold the blocks of the rope, whose change is legal
-use Rattle.std.specs.Prelude.{◌≡◌, ℕ, ◌+◌, ◌≤◌, ◌<◌, ◌^◌, ◌++◌, ◌==◌, true, cond, List, [], is_some}
+--     most_held      the most passages that may be held while a rope is made ready
+--     AreLive parts pieces      the blocks of pieces are those of live ropes
+--     IsReady held takings parts b next c      the tables show what was rebuilt while passages are held and recordings are open, and hold the blocks of the rope, whose change is legal
+use Rattle.std.specs.Prelude.{◌≡◌, ℕ, ◌+◌, ◌≤◌, ◌<◌, ◌^◌, ◌==◌, true, cond, List, [], ◌∷◌, is_some}
+use Rattle.voice_units.specs.declared.pieces.Piece.{Piece}
 use Rattle.voice_units.specs.Spots.{Spot, spots_of, spots_from, samples_in, pieces_of}
 use Rattle.voice_units.specs.Blocks.{BlockPair, pairs_at, has_pair}
 use Rattle.voice_model.specs.Spelling.{spelling, keeps_grammar}
 use Rattle.voice_model.specs.Replay.{Rebuilt, is_legal, brings, new_places}
-use Rattle.voice_model.specs.Valid.{IsRebuilt}
-use Rattle.voice_model.specs.Places.{IsPlaced, AllUsed}
+use Rattle.voice_model.specs.Valid.{Every}
 use Rattle.voice_model.specs.declared.changes.Change.{Change}
 use Rattle.voice_model.specs.declared.changes.Change.TheVariants as changes
-use Rattle.rope_table.specs.Table.{new_pairs, uses_at}
-use Rattle.recovery.specs.Shown.{Shows, ShowsPlaces, plain_sample}
+use Rattle.rope_table.specs.Table.{new_pairs, uses_at, uses_in, pieces_in}
+use Rattle.checkpoint.specs.Blocks.{IsHeld}
 use Rattle.recovery.specs.declared.parts.Parts.{Parts}
+use Rattle.running_tables.specs.Running.{Runs}
 use Rattle.next_ropes.specs.declared.NextRope.{NextRope}
 
 -- the change of a recording, as the journal keeps it in an area of that form
@@ -32,14 +35,18 @@ new_samples (changes.Wide id len addresses) = spots_from id 0 len
 new_samples (changes.Edited id pieces) = spots_of pieces
 new_samples _ = []
 
--- the tables show what was rebuilt and hold the blocks of the rope, whose change is legal; and there is room for it
-pub record IsReady (parts : Parts) (b : Rebuilt) (next : NextRope) (c : Change) : Type 0 where
-  pub shows : Shows [] parts b.kept
-  pub places : ShowsPlaces parts.blocks.holders b.shape.blocks (b.places ++ new_places c)
-  pub form : parts.form ≡ b.form
-  pub valid : IsRebuilt plain_sample b
-  pub placed : IsPlaced b
-  pub used : AllUsed b
+-- the most passages that may be held while a rope is made ready
+abbrev pub most_held : ℕ
+most_held = 2 ^ 16
+
+-- the blocks of pieces are those of live ropes
+abbrev pub AreLive : Parts → List Piece → Type 0
+AreLive parts pieces = (pair : BlockPair) → has_pair (pairs_at parts.ropes.block (spots_of pieces)) pair ≡ true → 1 ≤ uses_in parts.ropes.block (pieces_in parts.ropes.ropes) pair
+
+-- the tables show what was rebuilt while passages are held and recordings are open, and hold the blocks of the rope, whose change is legal; and there is room for it
+pub record IsReady (held : List (List Piece)) (takings : List ℕ) (parts : Parts) (b : Rebuilt) (next : NextRope) (c : Change) : Type 0 where
+  pub runs : Runs held (next.pieces ∷ []) takings parts b
+  pub places : Every (IsHeld parts.blocks.holders) (new_places c)
   pub legal : is_legal b c ≡ true
   pub kind : is_some (brings c) ≡ true
   pub grammar : keeps_grammar c ≡ true

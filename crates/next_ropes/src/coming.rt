@@ -1,9 +1,10 @@
 //! Ropes that are ready come, or are given back.
 
-ghost use Rattle.std.specs.Prelude.{◌≡◌, ℕ, ◌≤◌, ◌<◌, ◌^◌, true, length, IfOk, if◌then◌else◌};
+ghost use Rattle.std.specs.Prelude.{◌≡◌, ℕ, List, [], ◌≤◌, ◌<◌, ◌^◌, true, length, IfOk, if◌then◌else◌};
+ghost use Rattle.voice_units.specs.declared.Piece.{Piece};
 ghost use Rattle.voice_model.specs.declared.Change.{Change};
 ghost use Rattle.voice_model.specs.Replay.{Rebuilt, acted};
-ghost use Rattle.recovery.specs.Shown.{Rebuilds};
+ghost use Rattle.running_tables.specs.Running.{Runs};
 ghost use Rattle.next_ropes.specs.Ready.{IsReady};
 ghost use Rattle.next_ropes.specs.Copies.{IsAlike};
 
@@ -15,15 +16,15 @@ use voice_units::{NoMemory, Shape};
 
 /// The rope comes. It takes no memory.
 pub fn perform(parts: &mut Parts, shape: &Shape, next: NextRope)
-    requires { (b : Rebuilt) × (c : Change) × IsReady parts.old b next c }
-    ensures { (b : Rebuilt) (c : Change) → IsReady parts.old b next c → b.shape ≡ shape.now → Rebuilds parts.new (acted b c) }
+    requires { (held : List (List Piece)) × (takings : List ℕ) × (b : Rebuilt) × (c : Change) × IsReady held takings parts.old b next c }
+    ensures { (held : List (List Piece)) (takings : List ℕ) (b : Rebuilt) (c : Change) → IsReady held takings parts.old b next c → b.shape ≡ shape.now → Runs held [] takings parts.new (acted b c) }
 {
     parts.add_rope(next.id, next.pieces, shape.graces.common);
 }
 
 /// The rope does not come, and its blocks are free again. It takes no memory.
 pub fn give_back(parts: &mut Parts, next: NextRope)
-    ensures { (b : Rebuilt) (c : Change) → IsReady parts.old b next c → Rebuilds parts.new b }
+    ensures { (held : List (List Piece)) (takings : List ℕ) (b : Rebuilt) (c : Change) → IsReady held takings parts.old b next c → Runs held [] takings parts.new b }
 {
     parts.blocks.drop_owner(Owner::File(next.id));
 }
@@ -65,8 +66,8 @@ pub fn parts_after(
     shape: &Shape,
     next: &NextRope,
 ) -> Result<Parts, NoMemory>
-    requires { (b : Rebuilt) × (c : Change) × IsReady parts.now b next.now c }
-    ensures { (b : Rebuilt) (c : Change) → IsReady parts.now b next.now c → b.shape ≡ shape.now → IfOk result (λ after. Rebuilds after (acted b c)) }
+    requires { (held : List (List Piece)) × (takings : List ℕ) × (b : Rebuilt) × (c : Change) × IsReady held takings parts.now b next.now c }
+    ensures { (held : List (List Piece)) (takings : List ℕ) (b : Rebuilt) (c : Change) → IsReady held takings parts.now b next.now c → b.shape ≡ shape.now → IfOk result (λ after. Runs held [] takings after (acted b c)) }
 {
     let pieces = next.pieces.copy()?;
     let mut after = copy_with_room(parts, new_blocks(next))?;

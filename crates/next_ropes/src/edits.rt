@@ -1,13 +1,12 @@
 //! Ropes made of blocks in use.
 
-ghost use Rattle.std.specs.Prelude.{◌≡◌, ◌≤◌, ◌^◌, [], true, length, IfOk};
-ghost use Rattle.voice_units.specs.Spots.{spots_of, samples_in};
-ghost use Rattle.voice_units.specs.Blocks.{BlockPair, pairs_at, has_pair};
+ghost use Rattle.std.specs.Prelude.{◌≡◌, ℕ, List, ◌≤◌, ◌^◌, [], length, IfOk};
+ghost use Rattle.voice_units.specs.declared.Piece.{Piece};
+ghost use Rattle.voice_units.specs.Spots.{samples_in};
 ghost use Rattle.voice_model.specs.Replay.{Rebuilt};
 ghost use Rattle.voice_model.specs.declared.changes.Change.TheVariants as changes;
-ghost use Rattle.rope_table.specs.Table.{uses_at};
-ghost use Rattle.recovery.specs.Shown.{Rebuilds};
-ghost use Rattle.next_ropes.specs.Ready.{IsReady};
+ghost use Rattle.running_tables.specs.Running.{Runs};
+ghost use Rattle.next_ropes.specs.Ready.{IsReady, AreLive, most_held};
 
 use crate::NextRope;
 use crate::payloads::edit_payload;
@@ -17,16 +16,16 @@ use rope_algebra::Pieces;
 use std::alloc::Global;
 use voice_units::{NoMemory, RopeId};
 
-/// Makes the next rope ready: one of these pieces, all of whose blocks are in use. It holds no block; after NoMemory too the tables show what they did.
+/// Makes the next rope ready: one of these pieces, all of whose blocks live ropes use. It holds no block; after NoMemory too the tables show what they did.
 pub fn ready_edit(alloc: Global, parts: &mut Parts, pieces: Pieces) -> Result<NextRope, NoMemory>
-    requires parts { (b : Rebuilt) × Rebuilds parts.old b }
+    requires parts { (held : List (List Piece)) × (takings : List ℕ) × (b : Rebuilt) × Runs held [] takings parts.old b }
     requires number { parts.old.next ≤ 2 ^ 48 }
     requires many { length pieces ≤ 4096 }
     requires long { samples_in pieces ≤ 2 ^ 30 }
-    requires used { (pair : BlockPair) → has_pair (pairs_at parts.old.ropes.block (spots_of pieces)) pair ≡ true → 1 ≤ uses_at parts.old.ropes pair }
-    ensures ready { (b : Rebuilt) → Rebuilds parts.old b → IfOk result (λ next. IsReady parts.new b next (changes.Edited b.next pieces)) }
+    requires used { AreLive parts.old pieces }
+    ensures ready { (held : List (List Piece)) (takings : List ℕ) (b : Rebuilt) → Runs held [] takings parts.old b → length held ≤ most_held → IfOk result (λ next. IsReady held takings parts.new b next (changes.Edited b.next pieces)) }
     ensures unheld { IfOk result (λ next. next.addresses.items ≡ []) }
-    ensures same { (b : Rebuilt) → Rebuilds parts.old b → Rebuilds parts.new b }
+    ensures same { (held : List (List Piece)) (takings : List ℕ) (b : Rebuilt) → Runs held [] takings parts.old b → Runs held [] takings parts.new b }
 {
     let id = RopeId(parts.next);
     let _length = pieces.length();

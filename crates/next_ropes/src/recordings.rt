@@ -1,14 +1,15 @@
 //! Recordings, whose blocks are held before they come.
 
-ghost use Rattle.std.specs.Prelude.{◌≡◌, ℕ, ◌+◌, ◌<◌, ◌≤◌, ◌^◌, List, true, length, IfOk, OnErr};
+ghost use Rattle.std.specs.Prelude.{◌≡◌, ℕ, ◌+◌, ◌<◌, ◌≤◌, ◌^◌, List, [], true, length, IfOk, OnErr};
+ghost use Rattle.voice_units.specs.declared.Piece.{Piece as PieceValue};
 ghost use Rattle.std.specs.List.{list_all};
 ghost use Rattle.voice_units.specs.Spots.{spots_from, pieces_of, samples_in};
 ghost use Rattle.voice_units.specs.Blocks.{blocks_for};
 ghost use Rattle.voice_blocks.specs.Holders.{open_in};
 ghost use Rattle.voice_model.specs.Spelling.{spelling, keeps_grammar};
 ghost use Rattle.voice_model.specs.Replay.{Rebuilt, all_differ, is_free_address};
-ghost use Rattle.recovery.specs.Shown.{Rebuilds, IsParts};
-ghost use Rattle.next_ropes.specs.Ready.{IsReady, next_change, recorded_change};
+ghost use Rattle.running_tables.specs.Running.{Runs, AreRunning};
+ghost use Rattle.next_ropes.specs.Ready.{IsReady, most_held, next_change, recorded_change};
 ghost use Rattle.next_ropes.specs.Lowest.{AreAddresses, lowest_open};
 
 use crate::NextRope;
@@ -82,14 +83,14 @@ pub fn ready_recording(
     shape: &Shape,
     len: u32,
 ) -> Result<NextRope, NoMemory>
-    requires parts { IsParts shape.now parts.old }
+    requires parts { AreRunning shape.now parts.old }
     requires most { len ≤ 2 ^ 30 }
     requires number { parts.old.next ≤ 2 ^ 48 }
     requires free { blocks_for shape.now.block len ≤ open_in parts.old.blocks.holders }
-    ensures ready { (b : Rebuilt) → Rebuilds parts.old b → b.shape ≡ shape.now → IfOk result (λ next. IsReady parts.new b next (next_change b.form next) × (length next.addresses.items ≡ blocks_for shape.now.block len) × (all_differ next.addresses.items ≡ true) × (list_all (is_free_address b) next.addresses.items ≡ true) × (next.pieces ≡ pieces_of (spots_from next.id 0 len))) }
+    ensures ready { (held : List (List PieceValue)) (takings : List ℕ) (b : Rebuilt) → Runs held [] takings parts.old b → length held ≤ most_held → b.shape ≡ shape.now → IfOk result (λ next. IsReady held takings parts.new b next (next_change b.form next) × (length next.addresses.items ≡ blocks_for shape.now.block len) × (all_differ next.addresses.items ≡ true) × (list_all (is_free_address b) next.addresses.items ≡ true) × (next.pieces ≡ pieces_of (spots_from next.id 0 len))) }
     ensures recorded { IfOk result (λ next. next.recorded ≡ true) }
     ensures lowest { IfOk result (λ next. next.addresses.items ≡ lowest_open (blocks_for shape.now.block len) parts.old.blocks.holders) }
-    ensures err { (b : Rebuilt) → Rebuilds parts.old b → OnErr result (Rebuilds parts.new b) }
+    ensures err { (held : List (List PieceValue)) (takings : List ℕ) (b : Rebuilt) → Runs held [] takings parts.old b → OnErr result (Runs held [] takings parts.new b) }
 {
     let id = RopeId(parts.next);
     let pieces = Pieces::one(

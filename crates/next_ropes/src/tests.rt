@@ -1,9 +1,9 @@
 //! Ropes of a small disk made ready; they come, or are given back.
 
-ghost use Rattle.std.specs.Prelude.{◌≡◌, IfOk};
+ghost use Rattle.std.specs.Prelude.{◌≡◌, [], IfOk};
 ghost use Rattle.voice_model.specs.Replay.{Rebuilt};
 ghost use Rattle.voice_model.specs.declared.Change.{Change};
-ghost use Rattle.recovery.specs.Shown.{IsParts};
+ghost use Rattle.running_tables.specs.Running.{AtRest};
 ghost use Rattle.next_ropes.specs.Ready.{IsReady};
 
 use super::{NextRope, give_back, parts_after, perform, ready_edit, ready_recording};
@@ -27,7 +27,7 @@ fn small_shape(version: u32) -> Result<Shape, BadShape> {
 }
 
 fn empty_parts(alloc: Global, shape: &Shape) -> Result<Parts, NoMemory>
-    ensures { IfOk result (λ parts. IsParts shape.now parts) }
+    ensures { IfOk result (λ parts. AtRest shape.now parts) }
 {
     Parts::empty(alloc, shape)
 }
@@ -46,8 +46,8 @@ fn seen(parts: &Parts, next: &NextRope) -> [u64; 4] {
 
 // The rope comes, or is given back.
 fn finish(parts: &mut Parts, shape: &Shape, next: NextRope, comes: bool)
-    requires { (b : Rebuilt) × (c : Change) × IsReady parts.old b next c × (b.shape ≡ shape.now) }
-    ensures { IsParts shape.now parts.new }
+    requires { (b : Rebuilt) × (c : Change) × IsReady [] [] parts.old b next c × (b.shape ≡ shape.now) }
+    ensures { AtRest shape.now parts.new }
 {
     if comes {
         perform(parts, shape, next);
@@ -58,8 +58,8 @@ fn finish(parts: &mut Parts, shape: &Shape, next: NextRope, comes: bool)
 
 // A recording is made ready; it comes, or is given back.
 fn record(parts: &mut Parts, alloc: Global, shape: &Shape, len: u16, comes: bool) -> [u64; 4]
-    requires { IsParts shape.now parts.old }
-    ensures { IsParts shape.now parts.new }
+    requires { AtRest shape.now parts.old }
+    ensures { AtRest shape.now parts.new }
 {
     let len = u32::from(len);
     if parts.next > 1 << 48 {
@@ -78,8 +78,8 @@ fn record(parts: &mut Parts, alloc: Global, shape: &Shape, len: u16, comes: bool
 
 // A rope of the pieces of rope 1 is made ready; it comes, or is given back.
 fn copy_first(parts: &mut Parts, alloc: Global, shape: &Shape, comes: bool) -> [u64; 4]
-    requires { IsParts shape.now parts.old }
-    ensures { IsParts shape.now parts.new }
+    requires { AtRest shape.now parts.old }
+    ensures { AtRest shape.now parts.new }
 {
     let _block = parts.ropes.block();
     let Some(first) = parts.ropes.get(RopeId(1)) else {
@@ -110,8 +110,8 @@ fn counts(parts: &Parts) -> [u64; 3] {
 
 // The counts after a recording of 16 samples, which does not come here.
 fn counts_after(parts: &mut Parts, alloc: Global, shape: &Shape) -> [u64; 3]
-    requires { IsParts shape.now parts.old }
-    ensures { IsParts shape.now parts.new }
+    requires { AtRest shape.now parts.old }
+    ensures { AtRest shape.now parts.new }
 {
     if parts.next > 1 << 48 {
         return [REFUSED; 3];

@@ -3,4 +3,4 @@ mod Dues
 mod Made
 mod Smaller
 mod Calls
-mod Rebuilt
+pub mod Rebuilt

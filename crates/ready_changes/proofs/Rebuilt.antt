@@ -17,12 +17,12 @@ use Rattle.ready_changes.specs.declared.Act.TheVariants as acts
 use Rattle.ready_changes.specs.declared.ReadyChange.{ReadyChange}
 
 -- a change that brings this effect and no places
-record Brings (d : Durable Spot) (c : Change) : Type 0 where
+pub record Brings (d : Durable Spot) (c : Change) : Type 0 where
   pub effect : Effect Spot
   pub same : (form : ℕ) → after form d (brings c) ≡ changed form d effect
   pub acts : (r : Rebuilt) → acted r c ≡ after_effect r [] (Some effect)
 
-brought : (spare : ℕ) (d : Durable Spot) (act : Act) (c : Change) → Does spare d act c → Brings d c
+pub brought : (spare : ℕ) (d : Durable Spot) (act : Act) (c : Change) → Does spare d act c → Brings d c
 brought spare d (acts.Retain row) c does = subst (Brings d) (sym does.is) (record { effect = Retained row; same = λ form. refl; acts = λ r. refl })
 brought spare d (acts.Forget class key) c does = subst (Brings d) (sym does) (record { effect = Forgotten class key; same = λ form. refl; acts = λ r. refl })
 brought spare d (acts.Count going) c does = subst (Brings d) (sym does.is) (record { effect = Counted does.keys; same = λ form. refl; acts = λ r. refl })

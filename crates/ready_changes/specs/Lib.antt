@@ -1,2 +1,3 @@
+pub mod Bytes
 pub mod Ready
 pub mod Laws

@@ -8,6 +8,7 @@ mod rows;
 mod sweeps;
 
 pub use laws::{all_stay_in_use, base_grows_by_rows, changes_of_calls};
+pub use payloads::Payload;
 pub use performing::perform;
 use recovery::Going;
 pub use rows::{ready_advance, ready_census, ready_forget, ready_retain};
@@ -34,7 +35,7 @@ pub enum Act {
 #[derive(Drop)]
 pub struct ReadyChange {
     pub act: Act,
-    pub payload: Vec<u8>,
+    pub payload: Payload,
 }
 
 #[cfg(test)]

@@ -41,26 +41,22 @@ fn sweep(parts: &mut Parts, graces: &Graces, going: &Going, ropes: &RopeList)
 }
 
 /// The change is done, whatever passages are held. It takes no memory.
-pub fn perform(parts: &mut Parts, shape: &Shape, ready: ReadyChange)
-    requires { (held : List (List Piece)) × (d : Durable Spot) × (c : Change) × Shows held parts.old d × IsReady parts.old.interests.spare d ready c }
-    ensures shows { (held : List (List Piece)) (d : Durable Spot) (c : Change) → Shows held parts.old d → IsOrderly parts.old.form d → d.shape.graces ≡ shape.now.graces → IsReady parts.old.interests.spare d ready c → Shows held parts.new (after parts.old.form d (brings c)) }
-    ensures blocks { (held : List (List Piece)) (d : Durable Spot) (c : Change) → Shows held parts.old d → IsOrderly parts.old.form d → d.shape.graces ≡ shape.now.graces → IsReady parts.old.interests.spare d ready c → AllInUse parts.old → FreesUnused parts.old parts.new }
-    ensures stay { frees ready.act ≡ false → parts.new.blocks ≡ parts.old.blocks }
-    ensures rebuilds { (r : Rebuilt) (c : Change) → Rebuilds parts.old r → r.shape ≡ shape.now → is_legal r c ≡ true → IsReady parts.old.interests.spare r.kept ready c → Rebuilds parts.new (acted r c) }
+pub fn perform(parts: &mut Parts, shape: &Shape, ready: &ReadyChange)
+    requires { (held : List (List Piece)) × (d : Durable Spot) × (c : Change) × Shows held parts.old d × IsReady parts.old.interests.spare d ready.now c }
+    ensures shows { (held : List (List Piece)) (d : Durable Spot) (c : Change) → Shows held parts.old d → IsOrderly parts.old.form d → d.shape.graces ≡ shape.now.graces → IsReady parts.old.interests.spare d ready.now c → Shows held parts.new (after parts.old.form d (brings c)) }
+    ensures blocks { (held : List (List Piece)) (d : Durable Spot) (c : Change) → Shows held parts.old d → IsOrderly parts.old.form d → d.shape.graces ≡ shape.now.graces → IsReady parts.old.interests.spare d ready.now c → AllInUse parts.old → FreesUnused parts.old parts.new }
+    ensures stay { frees ready.now.act ≡ false → parts.new.blocks ≡ parts.old.blocks }
+    ensures rebuilds { (r : Rebuilt) (c : Change) → Rebuilds parts.old r → r.shape ≡ shape.now → is_legal r c ≡ true → IsReady parts.old.interests.spare r.kept ready.now c → Rebuilds parts.new (acted r c) }
     ensures size { length parts.new.blocks.holders ≡ length parts.old.blocks.holders }
     ensures form { parts.new.form ≡ parts.old.form }
 {
-    let ReadyChange {
-        act,
-        payload: _payload,
-    } = ready;
-    match act {
-        Act::Retain(row) => come(parts, row),
+    match &ready.act {
+        Act::Retain(row) => come(parts, *row),
         Act::Forget(class, key) => {
-            parts.forget(&shape.graces, class, &key);
+            parts.forget(&shape.graces, *class, key);
         }
-        Act::Count(going) => parts.drop_gathered(&shape.graces, Class::Listed, &going),
-        Act::Sweep(going, ropes) => sweep(parts, &shape.graces, &going, &ropes),
-        Act::Advance(moment) => parts.advance(moment),
+        Act::Count(going) => parts.drop_gathered(&shape.graces, Class::Listed, going),
+        Act::Sweep(going, ropes) => sweep(parts, &shape.graces, going, ropes),
+        Act::Advance(moment) => parts.advance(*moment),
     }
 }

@@ -11,7 +11,8 @@ ghost use Rattle.recovery.specs.Shown.{Shows};
 ghost use Rattle.ready_changes.specs.Ready.{IsReady, MayBeReady, later_change, census_change};
 
 use crate::payloads::spelled;
-use crate::{Act, ReadyChange};
+use crate::{Act, Payload, ReadyChange};
+use change_codec::{advanced_bytes, forgotten_bytes};
 use interest_table::InterestTable;
 use recovery::{Parts, gather};
 use std::alloc::Global;
@@ -41,38 +42,32 @@ pub fn ready_retain(alloc: Global, parts: &mut Parts, row: Row) -> Result<ReadyC
     })
 }
 
-/// Makes it ready that a row goes.
-pub fn ready_forget(alloc: Global, class: Class, key: &Key) -> Result<ReadyChange, NoMemory>
+/// Makes it ready that a row goes. It takes no memory.
+pub fn ready_forget(class: Class, key: &Key) -> ReadyChange
     requires grammar { keeps_grammar (changes.Forgotten class key.now) ≡ true }
-    ensures { IfOk result (λ ready. (spare : ℕ) (d : Durable Spot) → IsReady spare d ready (changes.Forgotten class key.now)) }
+    ensures { (spare : ℕ) (d : Durable Spot) → IsReady spare d result (changes.Forgotten class key.now) }
 {
-    let payload = spelled(alloc, &Change::Forgotten(class, *key))?;
-    Ok(ReadyChange {
+    ReadyChange {
         act: Act::Forget(class, *key),
-        payload,
+        payload: Payload::short(forgotten_bytes(class, key)),
+    }
+}
+
+/// Makes it ready that the moment comes; none exactly where it is not later. It takes no memory.
+pub fn ready_advance(now: Moment, moment: Moment) -> Option<ReadyChange>
+    requires limit { is_moment moment ≡ true }
+    ensures { (spare : ℕ) (d : Durable Spot) → MayBeReady spare d result (later_change now moment) }
+{
+    if moment.number() <= now.number() {
+        return None;
+    }
+    Some(ReadyChange {
+        act: Act::Advance(moment),
+        payload: Payload::short(advanced_bytes(moment)),
     })
 }
 
-/// Makes it ready that the moment comes; none exactly where it is not later.
-pub fn ready_advance(
-    alloc: Global,
-    now: Moment,
-    moment: Moment,
-) -> Result<Option<ReadyChange>, NoMemory>
-    requires limit { is_moment moment ≡ true }
-    ensures { IfOk result (λ ready. (spare : ℕ) (d : Durable Spot) → MayBeReady spare d ready (later_change now moment)) }
-{
-    if moment.number() <= now.number() {
-        return Ok(None);
-    }
-    let payload = spelled(alloc, &Change::Advanced(moment))?;
-    Ok(Some(ReadyChange {
-        act: Act::Advance(moment),
-        payload,
-    }))
-}
-
-/// Makes it ready that the first 65,535 rows of class Listed go that a census does not name; none exactly where there is no such row. It goes over all rows.
+/// Makes it ready that the first 65,535 rows of class Listed go that a census does not name; none exactly where there is no such row. It goes over the rows of class Listed alone.
 pub fn ready_census(
     alloc: Global,
     interests: &InterestTable,

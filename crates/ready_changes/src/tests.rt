@@ -122,8 +122,8 @@ fn done(parts: &mut Parts, shape: &Shape, ready: Option<ReadyChange>) -> u64
     let Some(ready) = ready else {
         return 0;
     };
-    let size = ready.payload.len() as u64;
-    perform(parts, shape, ready);
+    let size = ready.payload.as_slice().len() as u64;
+    perform(parts, shape, &ready);
     size
 }
 
@@ -170,10 +170,7 @@ fn forget_row(parts: &mut Parts, alloc: Global, shape: &Shape, class: Class, key
     requires shown { IsParts shape.now parts.old }
     requires grammar { keeps_grammar (changes.Forgotten class key.now) ≡ true }
 {
-    match ready_forget(alloc, class, key) {
-        Ok(ready) => done(parts, shape, Some(ready)),
-        Err(_) => REFUSED,
-    }
+    done(parts, shape, Some(ready_forget(class, key)))
 }
 
 // The row of the class and key that bytes spell goes.
@@ -204,10 +201,8 @@ fn census(parts: &mut Parts, alloc: Global, shape: &Shape) -> u64
 fn advance(parts: &mut Parts, alloc: Global, shape: &Shape, moment: u16) -> u64
     requires { IsParts shape.now parts.old }
 {
-    match ready_advance(alloc, parts.moment, Moment(u64::from(moment))) {
-        Ok(ready) => done(parts, shape, ready),
-        Err(_) => REFUSED,
-    }
+    let ready = ready_advance(parts.moment, Moment(u64::from(moment)));
+    done(parts, shape, ready)
 }
 
 // A sweep of so many ropes.

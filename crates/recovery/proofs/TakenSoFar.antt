@@ -5,7 +5,8 @@ use Rattle.voice_journal.specs.declared.lists.Placed.{Placed}
 use Rattle.voice_units.specs.declared.shapes.Shape.{Shape}
 use Rattle.voice_model.specs.Spelling.{change_in}
 use Rattle.voice_model.specs.Replay.{Rebuilt, nothing_rebuilt, acted}
-use Rattle.voice_model.specs.Image.{Record, Replayed, replayed, if_allowed, by_change}
+use Rattle.disk_areas.specs.Areas.{Record}
+use Rattle.voice_model.specs.Image.{Replayed, replayed, if_allowed, by_change}
 use Rattle.voice_model.specs.declared.changes.Change.{Change}
 use Rattle.recovery.specs.declared.building.Building.{Building}
 use Rattle.recovery.specs.Building.{Builds, IsTaken, is_allowed}

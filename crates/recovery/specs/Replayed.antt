@@ -2,7 +2,7 @@
 --     bytes_of payloads      the bytes of payloads
 --     records_of payloads      payloads as records that stand at their own numbers
 use Rattle.std.specs.Prelude.{ℕ, List, map}
-use Rattle.voice_model.specs.Image.{Record}
+use Rattle.disk_areas.specs.Areas.{Record}
 use Rattle.voice_journal.specs.declared.lists.Placed.{Placed}
 use Rattle.recovery.specs.Shown.{numbered}
 

@@ -21,7 +21,7 @@ use Rattle.voice_units.specs.declared.pieces.Piece.{Piece}
 use Rattle.voice_model.specs.Samples.{Tagged}
 use Rattle.voice_model.specs.State.{Durable, Live, has_row, is_live, class_number, among}
 use Rattle.voice_model.specs.Changes.{wait_of}
-use Rattle.voice_model.specs.Image.{Record}
+use Rattle.disk_areas.specs.Areas.{Record}
 use Rattle.voice_model.specs.Replay.{Placed, Rebuilt, is_legal, acted}
 use Rattle.voice_model.specs.declared.changes.Change.{Change}
 use Rattle.voice_units.specs.declared.errors.NoMemory.{NoMemory}

@@ -4,7 +4,8 @@ use Rattle.std.specs.Prelude.{is_some}
 use Rattle.std.proofs.lemmas.Bool.{eqb-true, le-leb}
 use Rattle.voice_units.specs.declared.pieces.Piece.{Piece}
 use Rattle.voice_units.specs.Spots.{Spot}
-use Rattle.voice_model.specs.State.{State, Live, rope_at, is_live, row_at, class_number, spelled_number}
+use Rattle.disk_areas.specs.Numbers.{spelled_number}
+use Rattle.voice_model.specs.State.{State, Live, rope_at, is_live, row_at, class_number}
 use Rattle.voice_model.specs.Step.{first_of, when, if_unknown, if_taken, is_bad_note}
 use Rattle.voice_model.specs.Spelling.{keeps_grammar, is_key, is_id, is_note, is_moment}
 use Rattle.voice_model.specs.Replay.{Rebuilt}

@@ -1,6 +1,7 @@
 -- What the tables show of the state that what was rebuilt gives.
 use Rattle.std.proofs.Common.{◌≡◌, inl, inr, ℕ, ◌==◌, Bool, true, false, List, [], ◌∷◌, map, Option, refl, sym, ◌∙◌, ap, subst, arith}
 use Rattle.std.proofs.lemmas.Bool.{eqb-true, eqb-false}
+use Rattle.voice_units.specs.declared.pieces.Piece.{Piece}
 use Rattle.voice_units.specs.Spots.{Spot}
 use Rattle.voice_units.specs.declared.shapes.Graces.{Graces}
 use Rattle.voice_units.specs.declared.shapes.Shape.{Shape}
@@ -16,13 +17,14 @@ use Rattle.voice_model.specs.Changes.{effect_of}
 use Rattle.voice_model.proofs.KeptByChanges.{every-imply}
 use Rattle.voice_model.proofs.LegalInReplay.{live_filled}
 use Rattle.recovery.specs.declared.parts.Parts.{Parts}
-use Rattle.recovery.specs.Shown.{Shows, Rebuilds, plain_sample}
+use Rattle.recovery.specs.Shown.{Shows, IsOrderly, plain_sample}
+use Rattle.recovery.proofs.Rebuilding.{orderly_rebuilt}
 use Rattle.edits.specs.Shown.{ShowsState}
 use Rattle.collector.specs.Due.{AreEqual}
 use Rattle.ready_changes.specs.Ready.{HasGraces, MayBeReady, sweep_change, change_for}
 use Rattle.ready_changes.specs.Laws.{ChangesOfCalls}
 use Rattle.ready_changes.specs.declared.ReadyChange.{ReadyChange}
-use Rattle.row_calls.specs.Asked.{Gives}
+use Rattle.row_calls.specs.Asked.{Gives, Tells}
 
 spots_again : (fill : Spot → Tagged) → ((x : Spot) → spot_of (fill x) ≡ x) → (ss : List Spot) → map spot_of (map fill ss) ≡ ss
 spots_again fill same [] = refl
@@ -36,9 +38,9 @@ ropes_again fill same (r ∷ rs) =
 kept_again : (fill : Spot → Tagged) → ((x : Spot) → spot_of (fill x) ≡ x) → (d : Durable Spot) → durable_by spot_of (durable_by fill d) ≡ d
 kept_again fill same d = ap (λ (l : List (Live Spot)). record d { ropes = l }) (ropes_again fill same d.ropes)
 
-module _ (fill : Spot → Tagged) (parts : Parts) (b : Rebuilt) (s : State) (g : Gives fill parts b s) where
-  pub state_shown : ShowsState [] parts s
-  state_shown = subst (λ d. Shows [] parts d) (sym (kept_again fill g.spots b.kept) ∙ ap (durable_by spot_of) g.kept) g.shows.kept
+module _ (held : List (List Piece)) (fill : Spot → Tagged) (parts : Parts) (b : Rebuilt) (s : State) (g : Gives held fill parts b s) where
+  pub state_shown : ShowsState held parts s
+  state_shown = subst (λ d. Shows held parts d) (sym (kept_again fill g.spots b.kept) ∙ ap (durable_by spot_of) g.kept) g.shows.kept
 
   pub same_rows : b.kept.rows ≡ s.rows
   same_rows = ap (λ (d : Durable Tagged). d.rows) g.kept
@@ -56,18 +58,21 @@ module _ (fill : Spot → Tagged) (parts : Parts) (b : Rebuilt) (s : State) (g :
 abbrev pub state_of : Rebuilt → State
 state_of b = opened (durable_by plain_sample b.kept) 0 1 b.form
 
-pub rebuilt_shown : (parts : Parts) (b : Rebuilt) → Rebuilds parts b → ShowsState [] parts (state_of b)
-rebuilt_shown parts b h = subst (λ d. Shows [] parts d) (sym (kept_again plain_sample (λ x. refl) b.kept)) h.kept
+pub rebuilt_shown : (held : List (List Piece)) (parts : Parts) (b : Rebuilt) → Tells held parts b → ShowsState held parts (state_of b)
+rebuilt_shown held parts b h = subst (λ d. Shows held parts d) (sym (kept_again plain_sample (λ x. refl) b.kept)) h.kept
 
 -- ---- rows of what was rebuilt
 
-pub rebuilt_keys : (parts : Parts) (b : Rebuilt) → Rebuilds parts b → Every (λ row. is_key row.key ≡ true) parts.interests.rows
-rebuilt_keys parts b h =
+pub rebuilt_keys : (held : List (List Piece)) (parts : Parts) (b : Rebuilt) → Tells held parts b → Every (λ row. is_key row.key ≡ true) parts.interests.rows
+rebuilt_keys held parts b h =
     subst (λ rows. Every (λ (row : Row). is_key row.key ≡ true) rows) (sym h.kept.rows)
     (every-imply (IsRow (map (live_by plain_sample) b.kept.ropes)) (λ (row : Row). is_key row.key ≡ true) (λ row k. k.key) b.kept.rows h.valid.kept.each_row)
 
-pub rebuilt_once : (parts : Parts) (b : Rebuilt) → Rebuilds parts b → Once parts.interests.rows
-rebuilt_once parts b h = subst Once (sym h.kept.rows) h.valid.kept.once
+pub rebuilt_once : (held : List (List Piece)) (parts : Parts) (b : Rebuilt) → Tells held parts b → Once parts.interests.rows
+rebuilt_once held parts b h = subst Once (sym h.kept.rows) h.valid.kept.once
+
+pub orderly_told : (held : List (List Piece)) (parts : Parts) (b : Rebuilt) → Tells held parts b → IsOrderly parts.form b.kept
+orderly_told held parts b h = subst (λ form. IsOrderly form b.kept) (sym h.in_form) (orderly_rebuilt b h.valid)
 
 -- ---- graces
 
@@ -89,7 +94,7 @@ has_graces b h = by (b.kept.shape.version == 2) refl
 
 -- ---- a sweep
 
-module _ (fill : Spot → Tagged) (parts : Parts) (b : Rebuilt) (s : State) (g : Gives fill parts b s) where
+module _ (held : List (List Piece)) (fill : Spot → Tagged) (parts : Parts) (b : Rebuilt) (s : State) (g : Gives held fill parts b s) where
   pub graces_same : b.kept.shape.graces ≡ s.shape.graces
   graces_same = ap (λ (d : Durable Tagged). d.shape.graces) g.kept
 
@@ -99,5 +104,5 @@ module _ (fill : Spot → Tagged) (parts : Parts) (b : Rebuilt) (s : State) (g :
       subst (MayBeReady spare b.kept ready) (sym (laws.sweep s tapes limit fill b.kept g.kept))
       (subst (λ (form : ℕ). MayBeReady spare b.kept ready (sweep_change form b.kept limit)) g.form h)
 
-pub parts_graces : (parts : Parts) (b : Rebuilt) → Rebuilds parts b → HasGraces parts.form b.kept
-parts_graces parts b h = subst (λ (form : ℕ). HasGraces form b.kept) (sym h.in_form) (has_graces b h.valid)
+pub parts_graces : (held : List (List Piece)) (parts : Parts) (b : Rebuilt) → Tells held parts b → HasGraces parts.form b.kept
+parts_graces held parts b h = subst (λ (form : ℕ). HasGraces form b.kept) (sym h.in_form) (has_graces b h.valid)

@@ -2,16 +2,18 @@
 
 ghost use Rattle.std.specs.Prelude.{◌≡◌, ℕ, ◌+◌, ◌≤◌, List, true, length, nat_le, IfOk};
 ghost use Rattle.voice_units.specs.declared.Piece.{Piece};
+ghost use Rattle.voice_units.specs.declared.Piece.{Piece};
 ghost use Rattle.voice_units.specs.Spots.{Spot};
 ghost use Rattle.voice_model.specs.Samples.{Tagged};
-ghost use Rattle.voice_model.specs.State.{State, spelled_number};
+ghost use Rattle.disk_areas.specs.Numbers.{spelled_number};
+ghost use Rattle.voice_model.specs.State.{State, Durable};
 ghost use Rattle.voice_model.specs.Spelling.{is_key};
 ghost use Rattle.voice_model.specs.Step.{first_of, is_bad_note};
 ghost use Rattle.voice_model.specs.Replay.{Rebuilt};
 ghost use Rattle.voice_model.specs.declared.calls.Call.TheVariants as calls;
-ghost use Rattle.recovery.specs.Shown.{Rebuilds};
+ghost use Rattle.recovery.specs.Shown.{Shows};
 ghost use Rattle.edits.specs.Shown.{ShowsState, before_journal};
-ghost use Rattle.row_calls.specs.Asked.{IsAsked, Gives};
+ghost use Rattle.row_calls.specs.Asked.{IsAsked, Gives, Tells};
 
 use crate::{Asked, Growth};
 use ready_changes::{base_grows_by_rows, ready_retain};
@@ -75,9 +77,9 @@ fn size(row: &Row) -> u64
 
 /// Asks for a row to come. It is refused where its rope is not live, where the note of class Until is no moment of 8 bytes, or where its class and key stand, in this order. The tables get room for it. More than 2^32 - 2 rows count as want of memory.
 pub fn ask_retain(alloc: Global, parts: &mut Parts, row: Row) -> Result<Asked, NoMemory>
-    requires { (b : Rebuilt) × Rebuilds parts.old b }
-    ensures asked { (fill : Spot → Tagged) (b : Rebuilt) (s : State) (tapes : List (List ℕ)) → Gives fill parts.old b s → IfOk result (IsAsked parts.new b s tapes (calls.Retain row.class row.key row.rope row.note)) }
-    ensures same { (b : Rebuilt) → Rebuilds parts.old b → Rebuilds parts.new b }
+    requires { (held : List (List Piece)) × (b : Rebuilt) × Tells held parts.old b }
+    ensures asked { (held : List (List Piece)) (fill : Spot → Tagged) (b : Rebuilt) (s : State) (tapes : List (List ℕ)) → Gives held fill parts.old b s → IfOk result (IsAsked parts.new b s tapes (calls.Retain row.class row.key row.rope row.note)) }
+    ensures same { (held : List (List Piece)) (d : Durable Spot) → Shows held parts.old d → Shows held parts.new d }
     ensures blocks { parts.new.blocks ≡ parts.old.blocks }
     ensures form { parts.new.form ≡ parts.old.form }
     ensures moment { parts.new.moment ≡ parts.old.moment }

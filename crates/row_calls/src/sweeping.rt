@@ -1,6 +1,7 @@
 //! Sweep: expired rows go, and then ropes that nobody keeps.
 
 ghost use Rattle.std.specs.Prelude.{◌≡◌, ℕ, List, length, filter, IfOk};
+ghost use Rattle.voice_units.specs.declared.Piece.{Piece};
 ghost use Rattle.voice_units.specs.Spots.{Spot};
 ghost use Rattle.voice_model.specs.Samples.{Tagged};
 ghost use Rattle.voice_model.specs.State.{State, Durable};
@@ -8,9 +9,8 @@ ghost use Rattle.voice_model.specs.Changes.{is_expired};
 ghost use Rattle.voice_model.specs.Replay.{Rebuilt};
 ghost use Rattle.voice_model.specs.declared.calls.Call.TheVariants as calls;
 ghost use Rattle.voice_model.specs.declared.changes.Change.TheVariants as changes;
-ghost use Rattle.recovery.specs.Shown.{Rebuilds};
 ghost use Rattle.ready_changes.specs.Ready.{IsReady, MayBeReady, sweep_change};
-ghost use Rattle.row_calls.specs.Asked.{IsAsked, Gives};
+ghost use Rattle.row_calls.specs.Asked.{IsAsked, Gives, Tells};
 
 use crate::{Asked, Growth};
 use interest_table::InterestTable;
@@ -54,8 +54,8 @@ fn ready_by<L: Ledger>(
     requires name { blank.name ≡ L.name }
     requires count { blank.parts ≡ L.parts }
     requires one { blank.parts ≡ 1 }
-    requires shown { (b : Rebuilt) × Rebuilds parts.now b × (b.shape.graces ≡ graces.now) }
-    ensures { (b : Rebuilt) → Rebuilds parts.now b → b.shape.graces ≡ graces.now → IfOk result (λ ready. (spare : ℕ) → MayBeReady spare b.kept ready (sweep_change b.form b.kept limit)) }
+    requires shown { (held : List (List Piece)) × (b : Rebuilt) × Tells held parts.now b × (b.shape.graces ≡ graces.now) }
+    ensures { (held : List (List Piece)) (b : Rebuilt) → Tells held parts.now b → b.shape.graces ≡ graces.now → IfOk result (λ ready. (spare : ℕ) → MayBeReady spare b.kept ready (sweep_change b.form b.kept limit)) }
 {
     let mut steps = Steps::<L>::new(blank);
     ready_sweep(alloc, parts, graces, limit, &mut steps)
@@ -68,8 +68,8 @@ fn ready(
     graces: &Graces,
     limit: u16,
 ) -> Result<Option<ReadyChange>, NoMemory>
-    requires { (b : Rebuilt) × Rebuilds parts.now b × (b.shape.graces ≡ graces.now) }
-    ensures { (b : Rebuilt) → Rebuilds parts.now b → b.shape.graces ≡ graces.now → IfOk result (λ ready. (spare : ℕ) → MayBeReady spare b.kept ready (sweep_change b.form b.kept limit)) }
+    requires { (held : List (List Piece)) × (b : Rebuilt) × Tells held parts.now b × (b.shape.graces ≡ graces.now) }
+    ensures { (held : List (List Piece)) (b : Rebuilt) → Tells held parts.now b → b.shape.graces ≡ graces.now → IfOk result (λ ready. (spare : ℕ) → MayBeReady spare b.kept ready (sweep_change b.form b.kept limit)) }
 {
     ready_by::<Brand>(alloc, parts, graces, limit, Blank::new(1))
 }
@@ -81,8 +81,8 @@ pub fn ask_sweep(
     graces: &Graces,
     limit: u16,
 ) -> Result<Asked, NoMemory>
-    requires { (b : Rebuilt) × Rebuilds parts.now b × (b.shape.graces ≡ graces.now) }
-    ensures { (fill : Spot → Tagged) (b : Rebuilt) (s : State) (tapes : List (List ℕ)) → Gives fill parts.now b s → s.shape.graces ≡ graces.now → IfOk result (IsAsked parts.now b s tapes (calls.Sweep limit)) }
+    requires { (held : List (List Piece)) × (b : Rebuilt) × Tells held parts.now b × (b.shape.graces ≡ graces.now) }
+    ensures { (held : List (List Piece)) (fill : Spot → Tagged) (b : Rebuilt) (s : State) (tapes : List (List ℕ)) → Gives held fill parts.now b s → s.shape.graces ≡ graces.now → IfOk result (IsAsked parts.now b s tapes (calls.Sweep limit)) }
 {
     changes_of_calls();
     base_grows_by_rows();

@@ -119,7 +119,7 @@ fn told(asked: Result<Asked, NoMemory>) -> [u64; 3] {
     };
     match asked {
         Asked::Changes(ready, reply, growth) => [
-            ready.payload.len() as u64,
+            ready.payload.as_slice().len() as u64,
             grown(growth),
             number(&reply),
         ],

@@ -17,14 +17,14 @@ use Rattle.running_tables.specs.Laws as laws
 use Rattle.running_tables.proofs.Begins.{some_is}
 use Rattle.running_tables.proofs.Counts.{Single, later_single}
 
-grown_size : (o : Owner) (from n : ℕ) (hs : Holders) → length (with_taken o from n hs) ≡ length hs
+pub grown_size : (o : Owner) (from n : ℕ) (hs : Holders) → length (with_taken o from n hs) ≡ length hs
 grown_size o from zero hs = refl
 grown_size o from (suc n) [] = refl
 grown_size o from (suc n) (None ∷ hs) = ap suc (grown_size o (suc from) n hs)
 grown_size o from (suc n) (Some h ∷ hs) = ap suc (grown_size o from (suc n) hs)
 
 -- an address that was given out stays so
-old_stays : (o : Owner) (from n : ℕ) (hs : Holders) (a : ℕ) (h : Holder) → holder_at hs a ≡ Some h → holder_at (with_taken o from n hs) a ≡ Some h
+pub old_stays : (o : Owner) (from n : ℕ) (hs : Holders) (a : ℕ) (h : Holder) → holder_at hs a ≡ Some h → holder_at (with_taken o from n hs) a ≡ Some h
 old_stays o from zero hs a h e = e
 old_stays o from (suc n) [] a h e = e
 old_stays o from (suc n) (None ∷ hs) zero h e = cc
@@ -43,7 +43,7 @@ new_later : (o : Owner) (from n : ℕ) (h : Holder) → IsNew o (suc from) n h �
 new_later o from n h r = let low = r.low in let high = r.high in record { index = r.index; low = omega (arith, low); high = omega (arith, high); is = r.is }
 
 -- an address that is given out was so, or is that of a new block
-old_or_new : (o : Owner) (from n : ℕ) (hs : Holders) (a : ℕ) (h : Holder) → holder_at (with_taken o from n hs) a ≡ Some h → (holder_at hs a ≡ Some h) ⊎ IsNew o from n h
+pub old_or_new : (o : Owner) (from n : ℕ) (hs : Holders) (a : ℕ) (h : Holder) → holder_at (with_taken o from n hs) a ≡ Some h → (holder_at hs a ≡ Some h) ⊎ IsNew o from n h
 old_or_new o from zero hs a h e = inl e
 old_or_new o from (suc n) [] a h e = inl e
 old_or_new o from (suc n) (None ∷ hs) zero h e = inr (record { index = from; low = omega arith; high = omega arith; is = sym (some_is e) })
@@ -52,7 +52,7 @@ old_or_new o from (suc n) (Some g ∷ hs) zero h e = inl e
 old_or_new o from (suc n) (Some g ∷ hs) (suc a) h e = old_or_new o from (suc n) hs a h e
 
 -- each new block has an address
-new_has : (o : Owner) (from n : ℕ) (hs : Holders) (k : ℕ) → n ≤ open_in hs → from ≤ k → k < from + n → IsGiven (with_taken o from n hs) (block_of o k)
+pub new_has : (o : Owner) (from n : ℕ) (hs : Holders) (k : ℕ) → n ≤ open_in hs → from ≤ k → k < from + n → IsGiven (with_taken o from n hs) (block_of o k)
 new_has o from zero hs k room low high = absurd (omega (arith, low, high))
 new_has o from (suc n) [] k room low high = absurd (omega (arith, room))
 new_has o from (suc n) (None ∷ hs) k room low high = by (k == from) refl (λ l. new_has o (suc from) n hs k (omega (arith, room)) l (omega (arith, high)))
@@ -73,7 +73,7 @@ index_same : (o : Owner) (i k : ℕ) → block_of o i ≡ block_of o k → i ≡
 index_same o i k e = ap (λ (h : Holder). h.index) e
 
 -- a block stands at one address alone
-still_single : (o : Owner) (from n : ℕ) (hs : Holders) → AreLow o from hs → Single hs → Single (with_taken o from n hs)
+pub still_single : (o : Owner) (from n : ℕ) (hs : Holders) → AreLow o from hs → Single hs → Single (with_taken o from n hs)
 still_single o from zero hs low single = single
 still_single o from (suc n) [] low single = single
 still_single o from (suc n) (None ∷ hs) low single =

@@ -12,3 +12,4 @@ pub mod Ended
 pub mod Dropped
 pub mod Landed
 pub mod Swept
+pub mod Taken

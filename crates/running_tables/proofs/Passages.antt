@@ -34,10 +34,10 @@ pairs_joined : (block : ℕ) (xs ys : List Tagged) → pairs_of block (xs ++ ys)
 pairs_joined block xs ys = map-append (pair_of block) xs ys
 
 -- the passages of jobs that are not stopped
-abbrev pub passages_of : List Job → List (List Piece)
-passages_of jobs = map (λ (job : Job). pieces_of (map spot_of job.passage)) (filter (λ (job : Job). not job.stopped) jobs)
+abbrev pub job_passages : List Job → List (List Piece)
+job_passages jobs = map (λ (job : Job). pieces_of (map spot_of job.passage)) (filter (λ (job : Job). not job.stopped) jobs)
 
-job_pairs : (block : ℕ) (jobs : List Job) → pairs_in block (passages_of jobs) ≡ pairs_of block (flat_map held_by_job jobs)
+job_pairs : (block : ℕ) (jobs : List Job) → pairs_in block (job_passages jobs) ≡ pairs_of block (flat_map held_by_job jobs)
 job_pairs block [] = refl
 job_pairs block (job ∷ jobs) =
     by job.stopped job.passage (filter (λ (j : Job). not j.stopped) jobs) (job_pairs block jobs) job refl refl
@@ -54,11 +54,11 @@ job_pairs block (job ∷ jobs) =
         ∙ ap (λ l. l ++ pairs_of block (flat_map held_by_job jobs)) (piece_pairs block j.passage)
         ∙ sym (ap (λ b. pairs_of block (cond b [] j.passage) ++ pairs_of block (flat_map held_by_job jobs)) e)
 
-lane_pairs : (block : ℕ) (lanes : List LaneState) → pairs_in block (flat_map (λ (lane : LaneState). passages_of lane.jobs) lanes) ≡ pairs_of block (flat_map held_by_lane lanes)
+lane_pairs : (block : ℕ) (lanes : List LaneState) → pairs_in block (flat_map (λ (lane : LaneState). job_passages lane.jobs) lanes) ≡ pairs_of block (flat_map held_by_lane lanes)
 lane_pairs block [] = refl
 lane_pairs block (lane ∷ lanes) =
-    pairs_after block (passages_of lane.jobs) (flat_map (λ (l : LaneState). passages_of l.jobs) lanes)
-    ∙ ap (λ l. l ++ pairs_in block (flat_map (λ (m : LaneState). passages_of m.jobs) lanes)) (job_pairs block lane.jobs)
+    pairs_after block (job_passages lane.jobs) (flat_map (λ (l : LaneState). job_passages l.jobs) lanes)
+    ∙ ap (λ l. l ++ pairs_in block (flat_map (λ (m : LaneState). job_passages m.jobs) lanes)) (job_pairs block lane.jobs)
     ∙ ap (λ l. pairs_of block (held_by_lane lane) ++ l) (lane_pairs block lanes)
     ∙ sym (pairs_joined block (held_by_lane lane) (flat_map held_by_lane lanes))
 

@@ -16,7 +16,7 @@ use Rattle.recovery.specs.declared.parts.Parts.{Parts}
 use Rattle.running_tables.specs.Running.{taken, is_wanted, Runs, RunsState, pledged_in, takings_in}
 use Rattle.running_tables.specs.Laws as laws
 use Rattle.running_tables.proofs.Begins.{begins}
-use Rattle.running_tables.proofs.Passages.{passages_of}
+use Rattle.running_tables.proofs.Passages.{job_passages}
 use Rattle.running_tables.proofs.Codes.{or_left, either_way}
 
 pub spelled : laws.Spelled
@@ -82,7 +82,7 @@ no_taken held pledged takings parts b free runs = record {
   used = runs.used;
 }
 
-no_passage : (n : ℕ) → flat_map (λ (lane : LaneState). passages_of lane.jobs) (replicate n quiet_lane) ≡ []
+no_passage : (n : ℕ) → flat_map (λ (lane : LaneState). job_passages lane.jobs) (replicate n quiet_lane) ≡ []
 no_passage zero = refl
 no_passage (suc n) = no_passage n
 
@@ -94,7 +94,7 @@ no_taking block (suc n) (suc lane) = no_taking block n lane
 -- a state in which nothing but a change in doubt is held
 pub alone : (parts : Parts) (b : Rebuilt) (s : State) → laws.AreQuiet s.lanes → Runs [] (pledged_in s) [] parts b → RunsState parts b s
 alone parts b s still runs =
-    subst (λ l. Runs l (pledged_in s) (takings_in s) parts b) (sym (ap (flat_map (λ (lane : LaneState). passages_of lane.jobs)) still ∙ no_passage (length s.lanes)))
+    subst (λ l. Runs l (pledged_in s) (takings_in s) parts b) (sym (ap (flat_map (λ (lane : LaneState). job_passages lane.jobs)) still ∙ no_passage (length s.lanes)))
     (no_taken [] (pledged_in s) (takings_in s) parts b
     (λ lane. ap (λ (l : List LaneState). taken (map (λ (m : LaneState). taking_blocks s.shape.block m.taking) l) lane) still ∙ no_taking s.shape.block (length s.lanes) lane) runs)
 

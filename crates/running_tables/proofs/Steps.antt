@@ -23,7 +23,8 @@ use Rattle.running_tables.proofs.Codes.{either_way, or_left, or_right, has_appen
 use Rattle.running_tables.proofs.Free.{rope_blocks}
 use Rattle.running_tables.proofs.Recounted.{all_have}
 
-file_below : (next blocks : ℕ) (places : List Placed) (q : BlockPair) → Every (IsInRange next blocks) places → has_place places q ≡ true → q.file < next
+-- a block with a place is of a known file
+pub file_below : (next blocks : ℕ) (places : List Placed) (q : BlockPair) → Every (IsInRange next blocks) places → has_place places q ≡ true → q.file < next
 file_below next blocks [] q h e = cc
 file_below next blocks (place ∷ places) q h e =
     either_way (same_pair place.pair q) (has_place places q)

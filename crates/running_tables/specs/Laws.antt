@@ -5,6 +5,10 @@
 --     Placed      each block of a live rope has an address
 --     Spelled      the durable part has a base
 --     Recounted      only how often each block is held matters, and not in which order
+--     Reshown      tables that show the same, with the same map, are those of the same running manager
+--     NoneYet      the number of the next rope has no block while nothing is pledged
+--     Taken      the first blocks of the next rope's file take the lowest free addresses, and its pieces are pledged
+--     HaveBlocks pairs block pieces, UsedPledged, UsedUnpledged      the blocks of pieces are among these;  pieces of used blocks are pledged;  they are so no longer
 --     Played, Released      a passage is held besides;  a passage is held no longer
 --     HasGrown lane n takings more, Grown      an open recording has taken n more blocks;  it takes them
 --     HasEnded lane takings more, HasFirst block file n pieces, Ended      an open recording has no block any more;  pieces have the first blocks of a file;  its blocks become those of a file
@@ -88,6 +92,15 @@ Spelled = (held pledged : List (List Piece)) (takings : List ℕ) (parts : Parts
 abbrev pub Recounted : Type 0
 Recounted = (held others pledged : List (List Piece)) (takings : List ℕ) (parts : Parts) (b : Rebuilt) → ((pair : BlockPair) → uses_in b.shape.block others pair ≡ uses_in b.shape.block held pair) → Runs held pledged takings parts b → Runs others pledged takings parts b
 
+-- tables that show the same, with the same map, are those of the same running manager
+abbrev pub Reshown : Type 0
+Reshown = (held pledged : List (List Piece)) (takings : List ℕ) (old new : Parts) (b : Rebuilt) → Runs held pledged takings old b
+    → Shows held new b.kept → new.form ≡ old.form → new.blocks.holders ≡ old.blocks.holders → Runs held pledged takings new b
+
+-- the number of the next rope has no block while nothing is pledged
+abbrev pub NoneYet : Type 0
+NoneYet = (held : List (List Piece)) (takings : List ℕ) (parts : Parts) (b : Rebuilt) → Runs held [] takings parts b → (a index : ℕ) → ¬ (holder_at parts.blocks.holders a ≡ Some (block_of (File b.next) index))
+
 -- a passage of used blocks is held besides, and the map stays
 abbrev pub Played : Type 0
 Played = (held pledged : List (List Piece)) (takings : List ℕ) (old new : Parts) (b : Rebuilt) (passage : List Piece) → Runs held pledged takings old b
@@ -132,6 +145,26 @@ Ended = (held pledged : List (List Piece)) (takings more : List ℕ) (old new : 
     → Shows held new b.kept → new.form ≡ old.form → EachBecomes (renamed lane file) old.blocks.holders new.blocks.holders
     → ((a index : ℕ) → ¬ (holder_at old.blocks.holders a ≡ Some (block_of (File file) index)))
     → HasFirst b.shape.block file (taken takings lane) pieces → HasEnded lane takings more → Runs held (pieces ∷ pledged) more new b
+
+-- the first blocks of the next rope's file take the lowest free addresses, and its pieces are pledged
+abbrev pub Taken : Type 0
+Taken = (held : List (List Piece)) (takings : List ℕ) (old new : Parts) (b : Rebuilt) (n : ℕ) (pieces : List Piece) → Runs held [] takings old b
+    → Shows held new b.kept → new.form ≡ old.form → n ≤ open_in old.blocks.holders → new.blocks.holders ≡ with_taken (File b.next) 0 n old.blocks.holders
+    → HasFirst b.shape.block b.next n pieces → Runs held (pieces ∷ []) takings new b
+
+-- the blocks of pieces are among these
+abbrev pub HaveBlocks : List BlockPair → ℕ → List Piece → Type 0
+HaveBlocks pairs block pieces = (pair : BlockPair) → has_pair (pairs_at block (spots_of pieces)) pair ≡ true → has_pair pairs pair ≡ true
+
+-- pieces of used blocks are pledged
+abbrev pub UsedPledged : Type 0
+UsedPledged = (held pledged : List (List Piece)) (takings : List ℕ) (parts : Parts) (b : Rebuilt) (pieces : List Piece) → HaveBlocks (used_pairs b.kept) b.shape.block pieces
+    → Runs held pledged takings parts b → Runs held (pieces ∷ pledged) takings parts b
+
+-- and they are pledged no longer
+abbrev pub UsedUnpledged : Type 0
+UsedUnpledged = (held pledged : List (List Piece)) (takings : List ℕ) (parts : Parts) (b : Rebuilt) (pieces : List Piece) → HaveBlocks (used_pairs b.kept) b.shape.block pieces
+    → Runs held (pieces ∷ pledged) takings parts b → Runs held pledged takings parts b
 
 -- of pledged pieces it matters only which blocks they have
 abbrev pub Repledged : Type 0
@@ -208,6 +241,11 @@ pub record RunsLaws : Type 0 where
   pub placed : Placed
   pub spelled : Spelled
   pub recounted : Recounted
+  pub reshown : Reshown
+  pub none_yet : NoneYet
+  pub taken : Taken
+  pub used_pledged : UsedPledged
+  pub used_unpledged : UsedUnpledged
   pub played : Played
   pub released : Released
   pub grown : Grown

@@ -5,15 +5,19 @@
 --     IsGiven holders h      some address is given to the block
 --     GivesJust holders pairs others takings      each address that is given out is that of a wanted block, no block has two, and each block of other lists and of open recordings has one
 --     Runs held pledged takings parts b      the tables show what was rebuilt while passages are held, the pieces of a change in doubt are pledged, and recordings are open
+--     AreRunning shape parts      parts of a running manager of this shape, with nothing pledged
+--     AtRest shape parts      the same while no passage is held and no recording is open
+--     passages_of lanes, takings_of block lanes      the passages of unstopped jobs;  how many blocks open recordings have taken
 --     held_in s, pledged_in s, takings_in s      what a state holds
 --     RunsState parts b s      the tables show a state, by what was rebuilt
 use Rattle.std.specs.Prelude.{◌≡◌, ℕ, ◌+◌, ◌*◌, ◌<◌, Bool, true, not, ◌||◌, nat_lt, List, [], ◌∷◌, ◌++◌, map, filter, flat_map, length, slice_index_or, Some, None}
 use Rattle.voice_units.specs.Blocks.{BlockPair, has_pair}
 use Rattle.voice_units.specs.Spots.{pieces_of}
 use Rattle.voice_units.specs.declared.pieces.Piece.{Piece}
+use Rattle.voice_units.specs.declared.shapes.Shape.{Shape}
 use Rattle.voice_model.specs.Replay.{Rebuilt, used_pairs}
 use Rattle.voice_model.specs.Samples.{spot_of}
-use Rattle.voice_model.specs.State.{State}
+use Rattle.voice_model.specs.State.{State, LaneState}
 use Rattle.voice_model.specs.Room.{taking_blocks, held_by_doubt}
 use Rattle.voice_model.specs.Places.{IsPlaced, AllUsed}
 use Rattle.voice_model.specs.Valid.{Every, IsRebuilt}
@@ -69,11 +73,33 @@ pub record Runs (held pledged : List (List Piece)) (takings : List ℕ) (parts :
   pub placed : IsPlaced b
   pub used : AllUsed b
 
+-- parts of a running manager of this shape, with nothing pledged
+pub record AreRunning (shape : Shape) (parts : Parts) : Type 0 where
+  pub held : List (List Piece)
+  pub takings : List ℕ
+  pub what : Rebuilt
+  pub runs : Runs held [] takings parts what
+  pub in_shape : what.shape ≡ shape
+
+-- the same while no passage is held and no recording is open
+pub record AtRest (shape : Shape) (parts : Parts) : Type 0 where
+  pub what : Rebuilt
+  pub runs : Runs [] [] [] parts what
+  pub in_shape : what.shape ≡ shape
+
 -- ---- what a state holds
+
+-- the passages of jobs that are not stopped
+abbrev pub passages_of : List LaneState → List (List Piece)
+passages_of lanes = flat_map (λ lane. map (λ job. pieces_of (map spot_of job.passage)) (filter (λ job. not job.stopped) lane.jobs)) lanes
+
+-- how many blocks the open recording of each lane has taken
+abbrev pub takings_of : ℕ → List LaneState → List ℕ
+takings_of block lanes = map (λ lane. taking_blocks block lane.taking) lanes
 
 -- the passages of a state's jobs that are not stopped
 abbrev pub held_in : State → List (List Piece)
-held_in s = flat_map (λ lane. map (λ job. pieces_of (map spot_of job.passage)) (filter (λ job. not job.stopped) lane.jobs)) s.lanes
+held_in s = passages_of s.lanes
 
 -- the pieces that a change in doubt brings
 abbrev pub pledged_in : State → List (List Piece)
@@ -81,7 +107,7 @@ pledged_in s = pieces_of (map spot_of (held_by_doubt s.doubt)) ∷ []
 
 -- how many blocks the open recording of each lane has taken
 abbrev pub takings_in : State → List ℕ
-takings_in s = map (λ lane. taking_blocks s.shape.block lane.taking) s.lanes
+takings_in s = takings_of s.shape.block s.lanes
 
 -- the tables show a state, by what was rebuilt
 abbrev pub RunsState : Parts → Rebuilt → State → Type 0

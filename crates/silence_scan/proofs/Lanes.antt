@@ -53,7 +53,7 @@ sel_max (x ∷ xs) (y ∷ ys) =
     ap (λ z. z ∷ sel_l (zip2 nat_lt xs ys) ys xs) one ∙ ap (λ zs. max x y ∷ zs) (sel_max xs ys)
 
 -- so few bytes have a loudness that fits
-pub taken_small : (bs : List ℕ) (k : ℕ) → k ≤ 160 → sum_by loud (take k bs) ≤ 2 ^ 31
+pub taken_small : (bs : List ℕ) (k : ℕ) → k ≤ 2 ^ 16 → sum_by loud (take k bs) ≤ 2 ^ 31
 taken_small bs k h = omega (arith, loud_bound (take k bs), length-take k bs, h)
 
 -- a step of `blocks_loud` over a block of lanes

@@ -7,8 +7,11 @@ ghost use Rattle.silence_scan.specs.Greatest.{greatest};
 
 use std::simd::prelude::*;
 
-// The samples of a whole window: so many are summed in lanes before these are put together.
+// The samples of a whole window.
 pub(crate) const WINDOW: usize = 160;
+
+// So many samples are summed in lanes before these are put together.
+const CHUNK: usize = 1 << 16;
 
 fn loud_lanes(v: u8x32) -> u8x32
     ensures { result ≡ map loud v }
@@ -42,7 +45,7 @@ fn reduced(sums: u32x8) -> u32
 // The loudness of n bytes, a multiple of 32, from a place on: a sum in lanes, which are put together once.
 fn blocks_loud(bytes: &[u8], at: usize, n: usize) -> u32
     requires whole { n % 32 ≡ 0 }
-    requires short { n ≤ 160 }
+    requires short { n ≤ 2 ^ 16 }
     requires within { at + n ≤ length bytes.now }
     ensures { result ≡ sum_by loud (slice_range bytes.now at (at + n)) }
 {
@@ -68,8 +71,8 @@ pub fn loud_sum(bytes: &[u8]) -> u64
 {
     let mut total = 0u64;
     let mut at = 0;
-    'windows: while bytes.len() - at >= 32 {
-        let n = ((bytes.len() - at) / 32 * 32).min(WINDOW);
+    'chunks: while bytes.len() - at >= 32 {
+        let n = ((bytes.len() - at) / 32 * 32).min(CHUNK);
         total += u64::from(blocks_loud(bytes, at, n));
         at += n;
     }

@@ -10,6 +10,7 @@ use crate::plays::{Draw, Knock, Leave, Look, Tell};
 use crate::stands::Stands;
 use crate::table::{Gate, Place};
 use std::sync::Wait;
+use std::thread;
 
 // The words.
 const DRAWN: usize = 0;
@@ -17,6 +18,9 @@ const DRAWN: usize = 0;
 const SERVED: usize = 1;
 
 const TOLD: usize = 2;
+
+// How often a seat looks before it goes to sleep: most turns are over before a sleeper could be woken.
+const LOOKS: u32 = 64;
 
 // Behind them come the doors, one for each ticket that may be out: the word at which its holder waits.
 fn door_of(ticket: u64) -> usize
@@ -47,6 +51,22 @@ impl<T: Stands> Gate<T> {
         found == ticket
     }
 
+    // Looks some times, and lets other threads run between; whether it came to be the seat's turn.
+    fn watch(&self, seat: &mut Place<T>, ticket: u64) -> bool
+        requires of { IsSeatOf self.now seat.old }
+        requires waits { (seat.old.me.0.stage ≡ Waiting) × (seat.old.me.1 ≡ []) × (ticket ≡ wrapped seat.old.me.0.ticket) }
+        ensures same { seat.new.table_id ≡ seat.old.table_id }
+        ensures turn { MatchBool result (HasTurn T.origin T.history T.stands (start_of self.now) seat.old.me.0 seat.new.me) (seat.new.me ≡ seat.old.me) }
+    {
+        for _ in 0..LOOKS {
+            if self.look(seat, ticket) {
+                return true;
+            }
+            thread::yield_now();
+        }
+        false
+    }
+
     /// Waits until it is the seat's turn.
     pub(crate) fn wait<R: Wait>(&self, rt: &R, seat: &mut Place<T>, ticket: u64)
         requires of { IsSeatOf self.now seat.old }
@@ -54,6 +74,9 @@ impl<T: Stands> Gate<T> {
         ensures same { seat.new.table_id ≡ seat.old.table_id }
         ensures turn { HasTurn T.origin T.history T.stands (start_of self.now) seat.old.me.0 seat.new.me }
     {
+        if self.watch(seat, ticket) {
+            return;
+        }
         let door = door_of(ticket);
         for _ in rt.forever() {
             // Read before the look, so that no knock is lost.

@@ -5,7 +5,7 @@ use Rattle.std.proofs.lemmas.Bool.{ne_eqb}
 use Rattle.voice_units.specs.declared.shapes.Shape.{Shape}
 use Rattle.voice_units.specs.Spots.{slice}
 use Rattle.voice_outside.specs.Disk.{segment}
-use Rattle.voice_journal.specs.Image.{Head, Records, Journal, current_head, records_from, by_records, by_head, journal_in}
+use Rattle.disk_areas.specs.Areas.{Head, Records, Journal, current_head, records_from, by_records, by_head, journal_in}
 use Rattle.voice_journal.specs.Readings.{extent, other_start, OtherIs}
 use Rattle.voice_journal.specs.Places.{area_start}
 use Rattle.voice_journal.specs.Parsed.{head_of, IsOther}

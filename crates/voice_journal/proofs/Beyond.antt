@@ -5,7 +5,7 @@ use Rattle.std.proofs.Math.ListN.{set, length-set}
 use Rattle.std.specs.Prelude.{nat_lt}
 use Rattle.std.proofs.lemmas.Bool.{cases_eq, ltb-true, ltb-false}
 use Rattle.voice_outside.specs.Disk.{AgreesOutside}
-use Rattle.voice_journal.specs.Image.{Journal}
+use Rattle.disk_areas.specs.Areas.{Journal}
 use Rattle.voice_journal.specs.Readings.{Reads, OtherIs, IsPending, data_start}
 use Rattle.voice_journal.proofs.Relations.{reads_as}
 use Rattle.voice_journal.proofs.Moves.{layout, other_same, reads_beyond}

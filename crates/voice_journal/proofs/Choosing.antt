@@ -4,8 +4,8 @@ use Rattle.std.specs.Prelude.{not, nat_eq, ◌==◌, nat_lt}
 use Rattle.std.proofs.lemmas.Bool.{eqb-true, eqb-false, eq-eqb}
 use Rattle.voice_units.specs.declared.shapes.Shape.{Shape}
 use Rattle.voice_outside.specs.Disk.{segment}
-use Rattle.voice_journal.specs.Numbers.{spelled_number, number_at}
-use Rattle.voice_journal.specs.Image.{Head, is_head, head_at, newer, current_head}
+use Rattle.disk_areas.specs.Numbers.{spelled_number, number_at}
+use Rattle.disk_areas.specs.Areas.{Head, is_head, head_at, newer, current_head}
 use Rattle.voice_journal.specs.Places.{area_start}
 use Rattle.voice_journal.specs.Parsed.{HasHeads, head_of, IsOther}
 use Rattle.voice_journal.proofs.Segments.{segment_shifted, get_or-segment}

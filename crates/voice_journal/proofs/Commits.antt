@@ -2,7 +2,7 @@
 use Rattle.std.proofs.Common.{◌≡◌, ℕ, ◌+◌, ◌*◌, ◌^◌, ◌<◌, ◌≤◌, List, [], ◌∷◌, length, Bool, true, false, refl, ap, sym, ◌∙◌, subst, arith, Some, None}
 use Rattle.std.specs.Prelude.{not}
 use Rattle.voice_outside.specs.Disk.{Told, AgreesOutside, Now, Leaves, WroteSynced, IsSettled}
-use Rattle.voice_journal.specs.Image.{Journal}
+use Rattle.disk_areas.specs.Areas.{Journal}
 use Rattle.voice_journal.specs.Readings.{Reads, OtherIs, IsPending, other_start, with_payload, switched, frame, framed_size, data_start, Without, WithinLand}
 use Rattle.voice_journal.specs.Spelled.{area_bytes}
 use Rattle.voice_journal.specs.Places.{JournalValue, area_start, landed, commit_place, closed_after}

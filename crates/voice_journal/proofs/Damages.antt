@@ -1,6 +1,6 @@
 -- Readings of damaged images.
 use Rattle.std.proofs.Common.{◌≡◌, ℕ, ap}
-use Rattle.voice_journal.specs.Image.{JournalReading}
+use Rattle.disk_areas.specs.Areas.{JournalReading}
 
 -- the place of the damage, if any
 place_of : ℕ → JournalReading → ℕ

@@ -1,7 +1,7 @@
 -- The numbers of byteorder are those of the image.
 use Rattle.std.proofs.Common.{◌≡◌, ℕ, zero, suc, ◌+◌, ◌-◌, ◌≤◌, List, [], ◌∷◌, length, drop, take, refl, ap, ◌∙◌, arith, length-drop}
 use Rattle.byteorder.specs.Endian.{big_number}
-use Rattle.voice_journal.specs.Numbers.{spelled_number, number_at}
+use Rattle.disk_areas.specs.Numbers.{spelled_number, number_at}
 
 two : (xs : List ℕ) → 2 ≤ length xs → big_number 2 xs ≡ spelled_number (take 2 xs)
 two [] h = absurd (omega arith)
@@ -38,13 +38,10 @@ pub rest_is : (at : ℕ) (xs : List ℕ) → take (length xs - at) (drop at xs) 
 rest_is at xs = take_all (drop at xs) (length xs - at) (length-drop at xs)
 
 pub big_2 : (at : ℕ) (xs : List ℕ) → at + 2 ≤ length xs → big_number 2 (take (length xs - at) (drop at xs)) ≡ number_at 2 at xs
-unfolding number_at
 big_2 at xs h = ap (λ (l : List ℕ). big_number 2 l) (rest_is at xs) ∙ two (drop at xs) (omega (arith, length-drop at xs))
 
 pub big_4 : (at : ℕ) (xs : List ℕ) → at + 4 ≤ length xs → big_number 4 (take (length xs - at) (drop at xs)) ≡ number_at 4 at xs
-unfolding number_at
 big_4 at xs h = ap (λ (l : List ℕ). big_number 4 l) (rest_is at xs) ∙ four (drop at xs) (omega (arith, length-drop at xs))
 
 pub big_8 : (at : ℕ) (xs : List ℕ) → at + 8 ≤ length xs → big_number 8 (take (length xs - at) (drop at xs)) ≡ number_at 8 at xs
-unfolding number_at
 big_8 at xs h = ap (λ (l : List ℕ). big_number 8 l) (rest_is at xs) ∙ eight (drop at xs) (omega (arith, length-drop at xs))

@@ -1,7 +1,7 @@
 -- An image in doubt.
 use Rattle.std.proofs.Common.{◌⊎◌, inl, inr, ℕ, List, get_or, Bool}
 use Rattle.std.proofs.lemmas.Bool.{cases_eq}
-use Rattle.voice_journal.specs.Image.{Journal}
+use Rattle.disk_areas.specs.Areas.{Journal}
 use Rattle.voice_journal.specs.Readings.{Reads, IsPending}
 use Rattle.voice_journal.proofs.Segments.{agrees_refl}
 

@@ -4,8 +4,8 @@ use Rattle.std.specs.Prelude.{fold}
 use Rattle.std.proofs.Math.Arith.{mod-mul}
 use Rattle.std.proofs.Math.Nat.{pow-succ', mod-eq_of_lt}
 use Rattle.voice_outside.specs.Disk.{segment, AgreesOutside}
-use Rattle.voice_journal.specs.Numbers.{spelled_number, number_at, number_bytes}
-use Rattle.voice_journal.specs.Image.{Record, Journal}
+use Rattle.disk_areas.specs.Numbers.{spelled_number, number_at, number_bytes}
+use Rattle.disk_areas.specs.Areas.{Record, Journal}
 use Rattle.voice_journal.specs.Readings.{Reads, OtherIs, IsPending, other_start, with_payload, switched, record_at, records_of, frame, frames, framed_size}
 use Rattle.voice_journal.specs.Spelled.{area_bytes}
 use Rattle.voice_journal.proofs.Segments.{segment_same, segment_part, get_or-segment, get_or-append_front, get_or-append_back}

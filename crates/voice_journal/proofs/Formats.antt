@@ -7,8 +7,8 @@ use Rattle.voice_units.specs.declared.shapes.Shape.{Shape}
 use Rattle.voice_units.specs.declared.shapes.Graces.{Graces}
 use Rattle.voice_units.specs.Spots.{slice}
 use Rattle.voice_outside.specs.Disk.{segment, AgreesOutside}
-use Rattle.voice_journal.specs.Numbers.{spelled_number, number_at, number_bytes}
-use Rattle.voice_journal.specs.Image.{Head, Records, is_head, graces_in, current_head, records_from, by_records, by_head, magic, magic_and_numbers, graces_by_class, superblock, journal_in}
+use Rattle.disk_areas.specs.Numbers.{spelled_number, number_at, number_bytes}
+use Rattle.disk_areas.specs.Areas.{Head, Records, is_head, graces_in, current_head, records_from, by_records, by_head, magic, magic_and_numbers, graces_by_class, superblock, journal_in}
 use Rattle.voice_journal.specs.Readings.{extent, Reads, formatted}
 use Rattle.voice_journal.specs.Spelled.{first_bytes, AreSpellable}
 use Rattle.voice_journal.specs.Formatted.{IsFormatted}
@@ -39,40 +39,31 @@ most false = omega arith
 
 module _ (s : Shape) (t : Bool) where
   version_at : s.version ≡ number_at 4 8 (spelled_by t s)
-  unfolding number_at
   version_at = sym (read_number 4 s.version (let limit = s.conditions.version_limit in omega arith))
 
   block_at : s.block ≡ number_at 4 12 (spelled_by t s)
-  unfolding number_at
   block_at = sym (read_number 4 s.block (let limit = s.conditions.block_limit in omega arith))
 
   blocks_at : s.blocks ≡ number_at 4 16 (spelled_by t s)
-  unfolding number_at
   blocks_at = sym (read_number 4 s.blocks (let limit = s.conditions.blocks_limit in let l = most (s.version == 1) in omega arith))
 
   area_at : s.area ≡ number_at 4 20 (spelled_by t s)
-  unfolding number_at
   area_at = sym (read_number 4 s.area (let limit = s.conditions.area_limit in omega arith))
 
   lanes_at : s.lanes ≡ number_at 2 28 (spelled_by t s)
-  unfolding number_at
   lanes_at = sym (read_number 2 s.lanes (let limit = s.conditions.lanes_limit in omega arith))
 
   common_at : s.graces.common < 2 ^ 32 → s.graces.common ≡ number_at 4 24 (spelled_by t s)
-  unfolding number_at
   common_at h = sym (read_number 4 s.graces.common (omega (arith, h)))
 
 module _ (s : Shape) (g : AreSpellable s.graces) where
   held_at : s.graces.held ≡ number_at 4 30 (spelled_by false s)
-  unfolding number_at
   held_at = let h = g.held in sym (read_number 4 s.graces.held (omega (arith, h)))
 
   until_at : s.graces.until ≡ number_at 4 34 (spelled_by false s)
-  unfolding number_at
   until_at = let h = g.until in sym (read_number 4 s.graces.until (omega (arith, h)))
 
   listed_at : s.graces.listed ≡ number_at 4 38 (spelled_by false s)
-  unfolding number_at
   listed_at = let h = g.listed in sym (read_number 4 s.graces.listed (omega (arith, h)))
 
   graces_at : (t : Bool) → (s.version == 1) ≡ t → s.graces ≡ graces_in s.version (spelled_by t s)

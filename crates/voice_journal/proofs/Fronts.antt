@@ -5,8 +5,8 @@ use Rattle.std.specs.List.{list_all}
 use Rattle.std.proofs.lemmas.Bool.{leb-true}
 use Rattle.voice_units.specs.declared.shapes.Shape.{Shape}
 use Rattle.voice_units.specs.Spots.{slice}
-use Rattle.voice_journal.specs.Numbers.{number_at}
-use Rattle.voice_journal.specs.Image.{graces_in, shape_in, if_fits, rest_is_zero, superblock_end, current_head, JournalReading, Journal, unless_damaged, by_shape, by_head, magic, journal_in}
+use Rattle.disk_areas.specs.Numbers.{number_at}
+use Rattle.disk_areas.specs.Areas.{graces_in, shape_in, if_fits, rest_is_zero, superblock_end, current_head, JournalReading, Journal, unless_damaged, by_shape, by_head, magic, journal_in}
 use Rattle.voice_journal.specs.Readings.{extent, Reads}
 use Rattle.voice_journal.proofs.Slices.{slice_same, number_same}
 

@@ -5,8 +5,8 @@ use Rattle.std.proofs.lemmas.Bool.{eqb-true, eq-eqb}
 use Rattle.std.proofs.lemmas.Bool.Decides.{nat_tests}
 use Rattle.voice_units.specs.Spots.{slice}
 use Rattle.voice_outside.specs.Disk.{segment}
-use Rattle.voice_journal.specs.Numbers.{spelled_number, number_at}
-use Rattle.voice_journal.specs.Image.{Record, Records, with_record, if_sound, if_open, records_from}
+use Rattle.disk_areas.specs.Numbers.{spelled_number, number_at}
+use Rattle.disk_areas.specs.Areas.{Record, Records, with_record, if_sound, if_open, records_from}
 use Rattle.voice_journal.specs.Readings.{record_at}
 use Rattle.voice_journal.proofs.Segments.{segment_shifted, get_or-segment}
 use Rattle.voice_journal.proofs.Slices.{segment_is, length-segment, number_segment}

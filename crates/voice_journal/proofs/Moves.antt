@@ -4,8 +4,8 @@ use Rattle.std.specs.Prelude.{◌&&◌, ◌==◌, nat_le}
 use Rattle.std.proofs.lemmas.Bool.{leb-true, eqb-true, eq-eqb}
 use Rattle.std.proofs.lemmas.Bool.Decides.{nat_tests}
 use Rattle.voice_outside.specs.Disk.{AgreesOutside}
-use Rattle.voice_journal.specs.Numbers.{number_at}
-use Rattle.voice_journal.specs.Image.{Record, Journal, is_head}
+use Rattle.disk_areas.specs.Numbers.{number_at}
+use Rattle.disk_areas.specs.Areas.{Record, Journal, is_head}
 use Rattle.voice_journal.specs.Readings.{Reads, OtherIs, other_start, data_start}
 use Rattle.voice_journal.proofs.Segments.{segment_same}
 use Rattle.voice_journal.proofs.Slices.{number_same, number_byte}

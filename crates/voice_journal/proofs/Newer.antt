@@ -3,8 +3,8 @@ use Rattle.std.proofs.Common.{◌≡◌, ◌⊎◌, inl, inr, ℕ, ◌+◌, ◌<
 use Rattle.std.specs.Prelude.{◌==◌, nat_lt}
 use Rattle.std.proofs.lemmas.Bool.Decides.{nat_tests}
 use Rattle.voice_units.specs.declared.shapes.Shape.{Shape}
-use Rattle.voice_journal.specs.Numbers.{number_at}
-use Rattle.voice_journal.specs.Image.{Head, is_head, head_at, newer, current_head}
+use Rattle.disk_areas.specs.Numbers.{number_at}
+use Rattle.disk_areas.specs.Areas.{Head, is_head, head_at, newer, current_head}
 
 -- of two heads the first is current, or the second
 abbrev pub Wins : Bool → Bool → Head → Head → Head → Type 0

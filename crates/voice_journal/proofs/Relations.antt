@@ -4,7 +4,7 @@
 use Rattle.std.proofs.Common.{◌≡◌, ◌≢◌, ◌⊎◌, inl, inr, ℕ, ◌+◌, ◌-◌, ◌*◌, ◌<◌, ◌≤◌, List, length, get_or, refl, ap, sym, ◌∙◌, subst, arith, Option, Some, None}
 use Rattle.voice_units.specs.declared.shapes.Shape.{Shape}
 use Rattle.voice_units.specs.Spots.{slice}
-use Rattle.voice_journal.specs.Image.{Head, Record, Records, JournalReading, Journal, current_head, records_from, by_records, by_head}
+use Rattle.disk_areas.specs.Areas.{Head, Record, Records, JournalReading, Journal, current_head, records_from, by_records, by_head}
 use Rattle.voice_journal.specs.Readings.{Reads, other_start}
 use Rattle.voice_journal.proofs.Slices.{segment_is}
 use Rattle.voice_journal.proofs.Fronts.{Front, by_front, front_of, front_size}

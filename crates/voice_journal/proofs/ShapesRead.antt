@@ -11,8 +11,8 @@ use Rattle.voice_units.specs.Layout.{IsShape, IsOneGrace, is_shape, is_one_grace
 use Rattle.voice_units.specs.Tested.{shape_if, shape_of, shape_tested}
 use Rattle.voice_units.specs.Spots.{slice}
 use Rattle.voice_outside.specs.Disk.{segment}
-use Rattle.voice_journal.specs.Numbers.{spelled_number, number_at}
-use Rattle.voice_journal.specs.Image.{graces_in, shape_in, if_fits, rest_is_zero, superblock_end, JournalReading, unless_damaged, by_shape, by_head, current_head, magic, journal_in}
+use Rattle.disk_areas.specs.Numbers.{spelled_number, number_at}
+use Rattle.disk_areas.specs.Areas.{graces_in, shape_in, if_fits, rest_is_zero, superblock_end, JournalReading, unless_damaged, by_shape, by_head, current_head, magic, journal_in}
 use Rattle.voice_journal.proofs.Segments.{segment_same, get_or-segment}
 use Rattle.voice_journal.proofs.Slices.{segment_is, length-segment}
 use Rattle.voice_journal.proofs.Fronts.{when_true, when_false}
@@ -99,7 +99,6 @@ module _ (image bytes : List ℕ) (size : ℕ) (len : length image ≡ size) (is
   part at n fits = segment_is image at n (omega (arith, len, long)) ∙ segment_same image bytes at n (λ i lo hi. sym (byte i (omega arith))) ∙ sym (segment_is bytes at n (omega (arith, size_is)))
 
   number : (w at : ℕ) → at + w ≤ 64 → number_at w at image ≡ number_at w at bytes
-  unfolding number_at
   number w at fits = ap spelled_number (part at w fits)
 
   magic_seen : (nat_le 64 (length image) && bytes_eq (take 8 image) magic) ≡ bytes_eq (take 8 bytes) magic

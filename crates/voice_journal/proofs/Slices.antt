@@ -2,7 +2,7 @@
 use Rattle.std.proofs.Common.{◌≡◌, ℕ, zero, suc, ◌+◌, ◌<◌, ◌≤◌, List, [], ◌∷◌, length, get_or, refl, ap, sym, ◌∙◌, arith}
 use Rattle.voice_units.specs.Spots.{slice}
 use Rattle.voice_outside.specs.Disk.{segment}
-use Rattle.voice_journal.specs.Numbers.{spelled_number, number_at}
+use Rattle.disk_areas.specs.Numbers.{spelled_number, number_at}
 use Rattle.voice_journal.proofs.Segments.{segment_same}
 
 shift : (x : ℕ) (xs : List ℕ) (from n : ℕ) → segment (x ∷ xs) (suc from) n ≡ segment xs from n
@@ -30,12 +30,10 @@ pub slice_same : (b a : List ℕ) (at n : ℕ) → length b ≡ length a → at 
 slice_same b a at n len fits same = segment_is b at n (omega (arith, len)) ∙ segment_same b a at n same ∙ sym (segment_is a at n fits)
 
 pub number_same : (b a : List ℕ) (at w : ℕ) → length b ≡ length a → at + w ≤ length a → ((i : ℕ) → at ≤ i → i < at + w → get_or b i 0 ≡ get_or a i 0) → number_at w at b ≡ number_at w at a
-unfolding number_at
 number_same b a at w len fits same = ap spelled_number (slice_same b a at w len fits same)
 
 -- the number that a known segment spells
 pub number_segment : (a : List ℕ) (at w : ℕ) → at + w ≤ length a → number_at w at a ≡ spelled_number (segment a at w)
-unfolding number_at
 number_segment a at w fits = ap spelled_number (segment_is a at w fits)
 
 single : (a : List ℕ) (at : ℕ) → spelled_number (segment a at 1) ≡ get_or a at 0

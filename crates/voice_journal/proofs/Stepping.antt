@@ -2,8 +2,8 @@
 use Rattle.std.proofs.Common.{◌≡◌, ◌≢◌, ℕ, zero, suc, ◌+◌, ◌*◌, ◌<◌, ◌≤◌, List, [], ◌∷◌, ◌++◌, length, take, drop, get_or, refl, ap, sym, ◌∙◌, subst, arith, Bool, true, false, length-append}
 use Rattle.std.specs.Prelude.{◌==◌, nat_lt}
 use Rattle.std.proofs.lemmas.Bool.{eq-eqb, ne_eqb, lt-ltb, le-ltb}
-use Rattle.voice_journal.specs.Numbers.{spelled_number, number_at}
-use Rattle.voice_journal.specs.Image.{Record, Records, with_record, if_sound, if_open, records_from}
+use Rattle.disk_areas.specs.Numbers.{spelled_number, number_at}
+use Rattle.disk_areas.specs.Areas.{Record, Records, with_record, if_sound, if_open, records_from}
 use Rattle.voice_journal.specs.Readings.{record_at}
 use Rattle.voice_journal.specs.Parsed.{placed, shown, AreRead}
 use Rattle.voice_journal.specs.declared.lists.Placed.{Placed}
@@ -46,7 +46,6 @@ stepped : (area : List ℕ) (most gate : ℕ) → gate < length area → records
 stepped area most gate lt = ap (λ (l : List ℕ). records_from (suc most) (length area) gate l) (drop_cons area gate lt) ∙ unfolds most (length area) gate (get_or area gate 0) (drop (gate + 1) area)
 
 len_at : (area : List ℕ) (gate : ℕ) → spelled_number (take 4 (drop (gate + 1) area)) ≡ number_at 4 (gate + 1) area
-unfolding number_at
 len_at area gate = refl
 
 closed : (b : Bool) (at : ℕ) (later : Records) → b ≡ false → if_open b at later ≡ Records.Sound [] at

@@ -5,7 +5,7 @@ use Rattle.std.specs.Result.{is_err}
 use Rattle.std.proofs.lemmas.Bool.{cases_eq}
 use Rattle.voice_units.specs.declared.shapes.Shape.{Shape}
 use Rattle.voice_outside.specs.Disk.{Told, AgreesOutside, IsTorn, Now, Leaves, WroteSynced, IsSettled}
-use Rattle.voice_journal.specs.Image.{Journal}
+use Rattle.disk_areas.specs.Areas.{Journal}
 use Rattle.voice_journal.specs.Readings.{Reads, OtherIs, IsPending, other_start, SameElsewhere, NearOld, Without, Within, WithinLand}
 use Rattle.voice_journal.specs.Places.{area_start}
 use Rattle.voice_journal.specs.Stands.{IsAt}

@@ -2,7 +2,7 @@
 use Rattle.std.proofs.Common.{◌≡◌, ⊎_elim, inl, inr, ℕ, ◌*◌, ◌≤◌, List, sym, subst}
 use Rattle.voice_units.specs.declared.shapes.Shape.{Shape}
 use Rattle.voice_outside.specs.Disk.{Told, Now, Leaves}
-use Rattle.voice_journal.specs.Image.{Journal}
+use Rattle.disk_areas.specs.Areas.{Journal}
 use Rattle.voice_journal.specs.Readings.{SameElsewhere, NearOld, Without, Within, WithinLand}
 use Rattle.voice_journal.specs.Places.{JournalValue}
 use Rattle.voice_journal.specs.Stands.{IsReady, IsKept, IsWhole}

@@ -1,7 +1,7 @@
 -- Records written one behind the other.
 use Rattle.std.proofs.Common.{◌≡◌, ℕ, zero, suc, ◌+◌, ◌<◌, ◌≤◌, List, [], ◌∷◌, ◌++◌, length, take, get_or, refl, ap, sym, ◌∙◌, arith, append_assoc, Vec}
 use Rattle.std.specs.declared.alloc.Global.{Global}
-use Rattle.voice_journal.specs.Numbers.{number_bytes}
+use Rattle.disk_areas.specs.Numbers.{number_bytes}
 use Rattle.voice_journal.specs.Readings.{frames, framed_size, views}
 
 nothing : (xs : List ℕ) → xs ++ [] ≡ xs

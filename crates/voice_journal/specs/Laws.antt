@@ -1,7 +1,7 @@
 -- Laws that crates above rest on.
 use Rattle.std.specs.Prelude.{ℕ, ◌≤◌, ◌<◌, ◌⊎◌, Bool, List, length}
 use Rattle.voice_outside.specs.Disk.{AgreesOutside}
-use Rattle.voice_journal.specs.Image.{Journal}
+use Rattle.disk_areas.specs.Areas.{Journal}
 use Rattle.voice_journal.specs.Readings.{Reads, OtherIs, IsPending, data_start}
 
 -- A change behind the areas leaves what is known of an image: what it reads as, and what it reads as once a gate is opened.

@@ -1,5 +1,3 @@
-pub mod Numbers
-pub mod Image
 pub mod Readings
 pub mod Spelled
 pub mod Formatted

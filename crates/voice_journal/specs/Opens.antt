@@ -1,7 +1,7 @@
 -- What opening gives.
 use Rattle.std.specs.Prelude.{◌≡◌, ℕ, List, ⊤}
 use Rattle.voice_outside.specs.Disk.{Told}
-use Rattle.voice_journal.specs.Image.{Journal, JournalReading, journal_in}
+use Rattle.disk_areas.specs.Areas.{Journal, JournalReading, journal_in}
 use Rattle.voice_journal.specs.Readings.{Reads}
 use Rattle.voice_journal.specs.Parsed.{placed, shown}
 use Rattle.voice_journal.specs.Stands.{Stands}

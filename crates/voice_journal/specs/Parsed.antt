@@ -4,8 +4,8 @@
 use Rattle.std.specs.Prelude.{◌≡◌, ◌≢◌, ◌*◌, ◌+◌, ◌<◌, ◌≤◌, ◌^◌, ℕ, List, [], ◌∷◌, length, drop, slice_index, Bool, true, false}
 use Rattle.voice_units.specs.declared.shapes.Shape.{Shape}
 use Rattle.voice_outside.specs.Disk.{segment}
-use Rattle.voice_journal.specs.Numbers.{number_at}
-use Rattle.voice_journal.specs.Image.{Record, Records, JournalReading, Head, journal_in, by_head, current_head, records_from}
+use Rattle.disk_areas.specs.Numbers.{number_at}
+use Rattle.disk_areas.specs.Areas.{Record, Records, JournalReading, Head, journal_in, by_head, current_head, records_from}
 use Rattle.voice_journal.specs.Readings.{record_at}
 use Rattle.voice_journal.specs.Places.{area_start}
 use Rattle.voice_journal.specs.declared.lists.Placed.{Placed}

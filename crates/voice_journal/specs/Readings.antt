@@ -11,8 +11,8 @@ use Rattle.std.specs.declared.alloc.Global.{Global}
 use Rattle.voice_units.specs.declared.shapes.Shape.{Shape}
 use Rattle.voice_units.specs.Layout.{bytes_needed}
 use Rattle.voice_outside.specs.Disk.{Told, AgreesOutside, IsTorn}
-use Rattle.voice_journal.specs.Numbers.{number_at, number_bytes}
-use Rattle.voice_journal.specs.Image.{Journal, JournalReading, Record, journal_in}
+use Rattle.disk_areas.specs.Numbers.{number_at, number_bytes}
+use Rattle.disk_areas.specs.Areas.{Journal, JournalReading, Record, journal_in}
 
 abbrev pub Reads : List ℕ → Journal → Type 0
 Reads image r = journal_in image ≡ JournalReading.Stands r

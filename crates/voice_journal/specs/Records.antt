@@ -1,6 +1,6 @@
 -- What is read of an area's records.
 use Rattle.std.specs.Prelude.{◌≡◌, ◌<◌, ℕ, List, length, drop}
-use Rattle.voice_journal.specs.Image.{Record, Records, records_from}
+use Rattle.disk_areas.specs.Areas.{Record, Records, records_from}
 use Rattle.voice_journal.specs.Parsed.{AreRead}
 use Rattle.voice_journal.specs.declared.parsing.Parsed.{Parsed}
 use Rattle.voice_journal.specs.declared.parsing.Parsed.TheVariants as parsed

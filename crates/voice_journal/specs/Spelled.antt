@@ -5,8 +5,8 @@
 use Rattle.std.specs.Prelude.{ℕ, ◌<◌, ◌^◌, List, [], ◌∷◌, ◌++◌, replicate}
 use Rattle.voice_units.specs.declared.shapes.Graces.{Graces}
 use Rattle.voice_units.specs.declared.shapes.Shape.{Shape}
-use Rattle.voice_journal.specs.Numbers.{number_bytes}
-use Rattle.voice_journal.specs.Image.{superblock}
+use Rattle.disk_areas.specs.Numbers.{number_bytes}
+use Rattle.disk_areas.specs.Areas.{superblock}
 use Rattle.voice_journal.specs.Readings.{frames}
 
 -- an area from its second byte on

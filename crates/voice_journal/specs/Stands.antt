@@ -4,7 +4,7 @@
 use Rattle.std.specs.Prelude.{◌≡◌, None, Some}
 use Rattle.voice_units.specs.declared.shapes.Shape.{Shape}
 use Rattle.voice_outside.specs.Disk.{Told, Now, Leaves}
-use Rattle.voice_journal.specs.Image.{Journal}
+use Rattle.disk_areas.specs.Areas.{Journal}
 use Rattle.voice_journal.specs.Readings.{Reads, OtherIs, IsPending, Without}
 use Rattle.voice_journal.specs.Places.{JournalValue, area_start, landed, commit_place, closed_after}
 use Rattle.voice_journal.specs.declared.seats.Seat.{Seat}

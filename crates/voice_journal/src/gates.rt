@@ -26,7 +26,7 @@ fn place_of(shape: &Shape, seat: &Seat, doubt: Doubt) -> u64
 impl Journal {
     ghost use Rattle.std.specs.Prelude.{Some};
     ghost use Rattle.voice_outside.specs.Disk.{Now, Leaves, MakesAtMost};
-    ghost use Rattle.voice_journal.specs.Image.{Journal as Reading};
+    ghost use Rattle.disk_areas.specs.Areas.{Journal as Reading};
     ghost use Rattle.voice_journal.specs.Readings.{extent, SameElsewhere, NearOld, WithinLand};
     ghost use Rattle.voice_journal.specs.Places.{landed, closed_after, FitsIn};
     ghost use Rattle.voice_journal.specs.Stands.{Stands, StandsInDoubt, IsReady};

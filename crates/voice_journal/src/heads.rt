@@ -2,8 +2,8 @@
 
 ghost use Rattle.std.specs.Prelude.{◌≡◌, ◌+◌, ◌≤◌, ◌^◌, ℕ, List, length, not, true, false, MatchOption, IfSome, Some, None};
 ghost use Rattle.voice_units.specs.declared.shapes.Shape.{Shape};
-ghost use Rattle.voice_journal.specs.Numbers.{number_at};
-ghost use Rattle.voice_journal.specs.Image.{is_head, current_head};
+ghost use Rattle.disk_areas.specs.Numbers.{number_at};
+ghost use Rattle.disk_areas.specs.Areas.{is_head, current_head};
 ghost use Rattle.voice_journal.specs.Places.{area_start};
 ghost use Rattle.voice_journal.specs.Parsed.{HasHeads, head_of, IsOther};
 

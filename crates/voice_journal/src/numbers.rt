@@ -1,7 +1,7 @@
 //! Numbers of the disk, the highest byte first.
 
 ghost use Rattle.std.specs.Prelude.{◌≡◌, ◌+◌, ◌≤◌, length};
-ghost use Rattle.voice_journal.specs.Numbers.{number_at};
+ghost use Rattle.disk_areas.specs.Numbers.{number_at};
 
 use byteorder::{BigEndian, ByteOrder};
 

@@ -3,8 +3,8 @@
 ghost use Rattle.std.specs.Prelude.{◌≡◌, ◌+◌, ◌≤◌, ◌<◌, ◌^◌, ℕ, List, length, vec_len, not, IsTrue, IsErrOf, IsErrAnd, IfOk, IfErr, OnOk, None, Some, MatchResult};
 ghost use Rattle.voice_outside.specs.Disk.{Now, segment};
 ghost use Rattle.voice_outside.specs.Counters.{HasRisen};
-ghost use Rattle.voice_journal.specs.Image.{Journal as Reading};
-ghost use Rattle.voice_journal.specs.Image.{journal_in, by_head, current_head, JournalReading};
+ghost use Rattle.disk_areas.specs.Areas.{Journal as Reading};
+ghost use Rattle.disk_areas.specs.Areas.{journal_in, by_head, current_head, JournalReading};
 ghost use Rattle.voice_journal.specs.Readings.{Reads, extent};
 ghost use Rattle.voice_journal.specs.Places.{area_start};
 ghost use Rattle.voice_journal.specs.Parsed.{head_of, IsOther};

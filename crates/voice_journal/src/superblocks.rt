@@ -2,7 +2,7 @@
 
 ghost use Rattle.std.specs.Prelude.{◌≡◌, ◌+◌, ◌≤◌, ◌<◌, ◌^◌, ◌++◌, ℕ, List, length, take, replicate, cond, MatchResult, IfOk, if◌then◌else◌, ◌==◌};
 ghost use Rattle.std.specs.List.{list_all};
-ghost use Rattle.voice_journal.specs.Image.{graces_in, superblock_end, superblock, graces_by_class};
+ghost use Rattle.disk_areas.specs.Areas.{graces_in, superblock_end, superblock, graces_by_class};
 ghost use Rattle.voice_journal.specs.Readings.{extent};
 ghost use Rattle.voice_journal.specs.Parsed.{IsSuperblock, IsDamage};
 ghost use Rattle.voice_journal.specs.Spelled.{AreSpellable};

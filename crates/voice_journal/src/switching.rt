@@ -13,7 +13,7 @@ use voice_units::Failed;
 impl Journal {
     ghost use Rattle.std.specs.Prelude.{Some};
     ghost use Rattle.voice_outside.specs.Disk.{Now, Leaves, MakesAtMost};
-    ghost use Rattle.voice_journal.specs.Image.{Journal as Reading};
+    ghost use Rattle.disk_areas.specs.Areas.{Journal as Reading};
     ghost use Rattle.voice_journal.specs.Readings.{extent, switched, framed_size, SameElsewhere, Without, Within};
     ghost use Rattle.voice_journal.specs.Places.{landed};
     ghost use Rattle.voice_journal.specs.Stands.{Stands, StandsInDoubt, IsKept, IsWhole};

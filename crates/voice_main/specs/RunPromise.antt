@@ -11,6 +11,7 @@ use Rattle.voice_outside.specs.Disk.{Told}
 use Rattle.voice_outside.specs.Files.{Files}
 use Rattle.voice_model.specs.declared.calls.Entry.{Entry}
 use Rattle.voice_model.specs.Text.{text_of}
+use Rattle.disk_areas.specs.Areas.{Journal}
 use Rattle.voice_model.specs.Image as image
 use Rattle.voice_model.specs.Replay.{Rebuilt}
 use Rattle.voice_store.specs.Stood.{is_fault}
@@ -50,7 +51,7 @@ IsDamaged disk place = IsTrue disk.honest → image.reading disk.bytes ≡ image
 
 -- the disk's bytes are read
 pub record IsRead (disk : Told) : Type 0 where
-  pub journal : image.Journal
+  pub journal : Journal
   pub rebuilt : Rebuilt
   pub reads : image.reading disk.bytes ≡ image.Reading.Reads journal rebuilt
 

@@ -12,7 +12,8 @@ use Rattle.voice_model.specs.State.{State, Effect}
 use Rattle.voice_model.specs.State.Effect.{Recorded, Edited, Retained, Forgotten, Counted, Swept, Advanced}
 use Rattle.voice_model.specs.Changes.{effect_of, payload_size, unless_empty, if_any, unlisted_keys, expired_rows, swept_ropes, taking_of}
 use Rattle.voice_model.specs.Tapes.{taken}
-use Rattle.voice_model.specs.Spelling.{spelling, number_bytes, piece_bytes, text_bytes}
+use Rattle.disk_areas.specs.Numbers.{number_bytes}
+use Rattle.voice_model.specs.Spelling.{spelling, piece_bytes, text_bytes}
 use Rattle.voice_model.specs.Replay.{brings, effect_by}
 use Rattle.voice_model.specs.Base.{change_of, IsMade, HasAddresses}
 use Rattle.voice_model.proofs.FitsOfCalls.{recorded_length, recorded_spots}

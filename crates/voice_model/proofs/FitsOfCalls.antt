@@ -6,7 +6,8 @@ use Rattle.std.specs.Prelude.{filter, nat_lt, nat_le, slice_index_or, unwrap_or}
 use Rattle.voice_units.specs.Spots.{slice, replaced, spots_from, pieces_of, nowhere}
 use Rattle.voice_units.proofs.Counts.{fewer_dropped, fewer_taken, one_piece}
 use Rattle.voice_model.specs.Samples.{Tagged, recording, recorded_from, pieces_in, spots_in_rope}
-use Rattle.voice_model.specs.State.{State, Durable, Live, LaneState, rope_at, is_live, samples_of, samples_or_none, joined, first_unknown, row_at, has_row, lane_at, quiet_lane, class_number, spelled_number}
+use Rattle.disk_areas.specs.Numbers.{spelled_number}
+use Rattle.voice_model.specs.State.{State, Durable, Live, LaneState, rope_at, is_live, samples_of, samples_or_none, joined, first_unknown, row_at, has_row, lane_at, quiet_lane, class_number}
 use Rattle.voice_model.specs.State.Effect.{Counted, Swept, Advanced}
 use Rattle.voice_model.specs.Changes.{effect_of, if_any, unless_empty, unlisted_keys, expired_rows, swept_ropes, is_due, without_expired, taking_of}
 use Rattle.voice_model.specs.Early.{all_but_last}

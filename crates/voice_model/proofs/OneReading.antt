@@ -2,7 +2,8 @@
 use Rattle.std.proofs.Common.{◌≡◌, ℕ, ◌-◌, List, Some, None, sym, ◌∙◌, ap}
 use Rattle.voice_model.specs.State.{State, opened}
 use Rattle.voice_model.specs.Replay.{Rebuilt, recovered}
-use Rattle.voice_model.specs.Image.{Journal, Reading, reading, opened_by, opened_from, recovered_by, recovered_from}
+use Rattle.disk_areas.specs.Areas.{Journal}
+use Rattle.voice_model.specs.Image.{Reading, reading, opened_by, opened_from, recovered_by, recovered_from}
 
 some_same : (s t : State) → Some s ≡ Some t → s ≡ t
 some_same s t e = cc

@@ -10,9 +10,10 @@ use Rattle.std.specs.List.{list_all}
 use Rattle.voice_units.specs.declared.pieces.Piece.{Piece}
 use Rattle.voice_units.specs.Spots.{slice}
 use Rattle.voice_units.proofs.PiecesOfRopes.{both}
-use Rattle.voice_model.specs.State.{class_number, spelled_number}
+use Rattle.disk_areas.specs.Numbers.{spelled_number, number_at, number_bytes}
+use Rattle.voice_model.specs.State.{class_number}
 use Rattle.voice_model.specs.Talk.{parts}
-use Rattle.voice_model.specs.Spelling.{spelling, keeps_grammar, Spells, change_in, if_spelled, spelled_again, at_kind, fields_by_kind, number_bytes, number_at, read_numbers, read_piece, read_pieces, read_pair, read_pairs, read_texts, read_retained, class_of, piece_bytes, pair_bytes, text_bytes, fits, is_id, is_moment, is_next, is_piece, are_pieces, is_key, is_note, is_recording, is_file, rise}
+use Rattle.voice_model.specs.Spelling.{spelling, keeps_grammar, Spells, change_in, if_spelled, spelled_again, at_kind, fields_by_kind, read_numbers, read_piece, read_pieces, read_pair, read_pairs, read_texts, read_retained, class_of, piece_bytes, pair_bytes, text_bytes, fits, is_id, is_moment, is_next, is_piece, are_pieces, is_key, is_note, is_recording, is_file, rise}
 use Rattle.voice_model.proofs.ChangesOfEffects.{number_length}
 use Rattle.voice_model.specs.declared.lists.Pair.{Pair}
 use Rattle.voice_model.specs.declared.changes.Change.{Change}

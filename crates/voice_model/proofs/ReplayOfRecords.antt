@@ -1,6 +1,7 @@
 -- Records are replayed as the list of changes that they spell.
 use Rattle.std.proofs.Common.{◌≡◌, ℕ, Bool, true, false, List, [], ◌∷◌, Option, Some, ◌∙◌, ap}
-use Rattle.voice_model.specs.Image.{Record, Replayed, replayed, by_change, if_allowed}
+use Rattle.disk_areas.specs.Areas.{Record}
+use Rattle.voice_model.specs.Image.{Replayed, replayed, by_change, if_allowed}
 use Rattle.voice_model.specs.Replay.{Rebuilt, rebuilt, if_legal, is_legal, acted, finished}
 use Rattle.voice_model.specs.Spelling.{change_in}
 use Rattle.voice_model.specs.declared.changes.Change.{Change}

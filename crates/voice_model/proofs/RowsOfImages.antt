@@ -3,8 +3,10 @@ use Rattle.std.proofs.Common.{◌≡◌, ℕ, zero, suc, List, [], ◌∷◌, �
 use Rattle.std.specs.Prelude.{option_map, drop, take}
 use Rattle.voice_units.specs.Spots.{replaced}
 use Rattle.voice_model.specs.State.{State, formatted}
-use Rattle.voice_model.specs.Spelling.{spelling, number_bytes}
-use Rattle.voice_model.specs.Image.{reading, Reading, opened_from, superblock, framed, blank}
+use Rattle.disk_areas.specs.Numbers.{number_bytes}
+use Rattle.disk_areas.specs.Areas.{graces_in, shape_in, rest_is_zero, is_head, current_head, records_from, journal_in, superblock}
+use Rattle.voice_model.specs.Spelling.{spelling}
+use Rattle.voice_model.specs.Image.{reading, Reading, opened_from, framed, blank}
 use Rattle.voice_model.specs.Base.{base_of, framed_size}
 use Rattle.voice_model.specs.Changes.{base_size}
 use Rattle.voice_model.specs.Replay.{Rebuilt, rebuilt, nothing_rebuilt}
@@ -22,17 +24,21 @@ put at bytes image = replaced image at (length bytes) bytes
 pub superblock_small : superblock small ≡
     86 ∷ 79 ∷ 73 ∷ 67 ∷ 68 ∷ 73 ∷ 83 ∷ 75 ∷ 0 ∷ 0 ∷ 0 ∷ 2 ∷ 0 ∷ 0 ∷ 0 ∷ 8 ∷ 0 ∷ 0 ∷ 0 ∷ 16 ∷ 0 ∷ 0 ∷ 2 ∷ 0 ∷ 0 ∷ 0 ∷ 0 ∷ 60 ∷ 0 ∷ 4
     ∷ 0 ∷ 0 ∷ 0 ∷ 60 ∷ 0 ∷ 0 ∷ 0 ∷ 60 ∷ 0 ∷ 0 ∷ 0 ∷ 60 ∷ replicate 22 0
+unfolding superblock
 superblock_small = refl
 
 pub superblock_small_old : superblock small_old ≡
     86 ∷ 79 ∷ 73 ∷ 67 ∷ 68 ∷ 73 ∷ 83 ∷ 75 ∷ 0 ∷ 0 ∷ 0 ∷ 1 ∷ 0 ∷ 0 ∷ 0 ∷ 8 ∷ 0 ∷ 0 ∷ 0 ∷ 16 ∷ 0 ∷ 0 ∷ 2 ∷ 0 ∷ 0 ∷ 0 ∷ 0 ∷ 60 ∷ 0 ∷ 4 ∷ replicate 34 0
+unfolding superblock
 superblock_small_old = refl
 
 -- a disk that was just formatted opens as the empty one
 pub blank_opens : opened_from (blank small) ≡ Some (formatted small)
+unfolding graces_in shape_in rest_is_zero is_head current_head records_from journal_in superblock
 blank_opens = refl
 
 pub blank_old_opens : opened_from (blank small_old) ≡ Some (formatted small_old)
+unfolding graces_in shape_in rest_is_zero is_head current_head records_from journal_in superblock
 blank_old_opens = refl
 
 -- the place of the damage
@@ -46,17 +52,21 @@ damage_by at bytes = damage (reading (put at bytes (blank small_old)))
 pub bad_superblocks :
     damage_by 0 (0 ∷ []) ∷ damage_by 8 (0 ∷ 0 ∷ 0 ∷ 3 ∷ []) ∷ damage_by 12 (0 ∷ 0 ∷ 0 ∷ 12 ∷ []) ∷ damage_by 16 (0 ∷ 0 ∷ 255 ∷ 255 ∷ []) ∷ damage_by 63 (1 ∷ []) ∷ []
     ≡ Some 0 ∷ Some 8 ∷ Some 12 ∷ Some 12 ∷ Some 30 ∷ []
+unfolding graces_in shape_in rest_is_zero is_head current_head records_from journal_in superblock
 bad_superblocks = refl
 
 pub short_image : damage (reading (replicate 63 0)) ≡ Some 0
+unfolding journal_in
 short_image = refl
 
 pub bad_new_superblocks : damage (reading (put 63 (1 ∷ []) (blank small))) ∷ damage (reading (put 30 (1 ∷ []) (blank small))) ∷ [] ≡ Some 42 ∷ None ∷ []
+unfolding graces_in shape_in rest_is_zero is_head current_head records_from journal_in superblock
 bad_new_superblocks = refl
 
 pub bad_heads :
     damage_by 64 (0 ∷ []) ∷ damage_by 72 (replicate 8 0) ∷ damage (reading (put 576 (1 ∷ []) (put 584 (number_bytes 8 1) (blank small_old)))) ∷ []
     ≡ Some 64 ∷ Some 64 ∷ Some 64 ∷ []
+unfolding graces_in shape_in rest_is_zero is_head current_head records_from journal_in superblock
 bad_heads = refl
 
 abbrev pub advance_frame : List ℕ
@@ -71,13 +81,16 @@ pub bad_records :
     ∷ damage_by 80 (1 ∷ 0 ∷ 0 ∷ 0 ∷ 1 ∷ 99 ∷ 1 ∷ 255 ∷ 255 ∷ 255 ∷ 255 ∷ [])
     ∷ damage_by 80 (1 ∷ 0 ∷ 0 ∷ 0 ∷ 23 ∷ recorded_twice_at) ∷ []
     ≡ Some 80 ∷ Some 80 ∷ Some 94 ∷ Some 86 ∷ Some 80 ∷ []
+unfolding graces_in shape_in rest_is_zero is_head current_head records_from journal_in superblock
 bad_records = refl
 
 -- one advance; a gate of 7 ends the list
 pub one_advance : opened_from (put 80 advance_frame (blank small_old)) ≡ Some (state_of (formatted small_old) (advances 1 1))
+unfolding graces_in shape_in rest_is_zero is_head current_head records_from journal_in superblock
 one_advance = refl
 
 pub closed_gate : opened_from (put 80 (7 ∷ []) (put 80 advance_frame (blank small_old))) ≡ Some (formatted small_old)
+unfolding graces_in shape_in rest_is_zero is_head current_head records_from journal_in superblock
 closed_gate = refl
 
 -- thirty-five advances, and the base that the 36th switches to; without its head's gate the image reads as before
@@ -89,12 +102,15 @@ abbrev pub before_the_gate : List ℕ
 before_the_gate = put 584 (number_bytes 8 2 ++ framed (Base2 36 1)) (put 80 (frames_of 1 35) (blank small_old))
 
 pub old_form : opened_from before_the_gate ≡ Some (state_of (formatted small_old) (advances 1 35))
+unfolding graces_in shape_in rest_is_zero is_head current_head records_from journal_in superblock
 old_form = refl
 
 pub new_form : opened_from (put 576 (1 ∷ []) before_the_gate) ≡ Some (state_of (formatted small_old) (advances 1 36))
+unfolding graces_in shape_in rest_is_zero is_head current_head records_from journal_in superblock
 new_form = refl
 
 pub kind_of_the_base : take 1 (drop 597 before_the_gate) ≡ 12 ∷ []
+unfolding superblock
 kind_of_the_base = refl
 
 -- the base of a state is as long as its size says, and is replayed to the state

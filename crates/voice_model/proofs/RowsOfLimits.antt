@@ -1,6 +1,7 @@
 -- Worked rows on the limits of numbers and lengths.
 use Rattle.std.proofs.Common.{◌≡◌, ℕ, zero, suc, ◌*◌, ◌^◌, List, [], ◌∷◌, length, replicate, refl, arith, length-append, Some, None}
 use Rattle.std.specs.Prelude.{option_map}
+use Rattle.disk_areas.specs.Areas.{graces_in, shape_in, rest_is_zero, is_head, current_head, records_from, journal_in, superblock}
 use Rattle.voice_model.proofs.Small.{small_old, replies_to, tapes}
 use Rattle.voice_model.proofs.RowsOfImages.{put, damage}
 use Rattle.voice_model.specs.State.{State, Live, joined, samples_of, first_unknown}
@@ -14,12 +15,14 @@ use Rattle.voice_model.specs.declared.changes.Change.TheVariants.{Recorded}
 
 -- an image of zero bytes has no magic
 pub zero_image : damage (reading (replicate 4096 0)) ≡ Some 0
+unfolding journal_in
 zero_image = refl
 
 -- behind the last number no rope comes
 pub numbers_spent :
     option_map (λ (s : State). replies_to s (Length (2 ^ 48) ∷ Sub (2 ^ 48) 0 0 ∷ [])) (opened_from (put 80 (framed (Recorded (2 ^ 48) 0 [])) (blank small_old)))
     ≡ Some (Number 0 ∷ No IdsSpent ∷ [])
+unfolding graces_in shape_in rest_is_zero is_head current_head records_from journal_in superblock
 numbers_spent = refl
 
 -- a rope many times over is that many times as long

@@ -1,5 +1,6 @@
 -- Images of small disks that an independent program wrote, and the states that the same calls leave.
 use Rattle.std.proofs.Common.{◌≡◌, ℕ, List, [], ◌∷◌, ◌++◌, refl, Some, replicate}
+use Rattle.disk_areas.specs.Areas.{graces_in, shape_in, rest_is_zero, is_head, current_head, records_from, journal_in}
 use Rattle.voice_model.specs.State.{formatted}
 use Rattle.voice_model.specs.Image.{opened_from}
 use Rattle.voice_model.proofs.Small.{small_old, state_of, f20, take_of}
@@ -321,14 +322,17 @@ some_calls =
     ∷ Record (take_of 3 9) ∷ Advance 17 ∷ Sweep 9 ∷ Retain Until (117 ∷ []) 4 (0 ∷ 0 ∷ 0 ∷ 0 ∷ 0 ∷ 0 ∷ 0 ∷ 20 ∷ []) ∷ Advance 20 ∷ Sweep 1 ∷ []
 
 pub opens_kept : opened_from kept ≡ Some (state_of (formatted patient) some_calls)
+unfolding graces_in shape_in rest_is_zero is_head current_head records_from journal_in
 opens_kept = refl
 
 -- after switches
 pub opens_switched : opened_from switched ≡ Some (state_of (formatted patient) (some_calls ++ advances 21 24))
+unfolding graces_in shape_in rest_is_zero is_head current_head records_from journal_in
 opens_switched = refl
 
 -- after a switch from version 1 to form 2
 pub opens_migrated : opened_from migrated ≡ Some (state_of (formatted small_old) (some_calls ++ advances 21 24))
+unfolding graces_in shape_in rest_is_zero is_head current_head records_from journal_in
 opens_migrated = refl
 
 pub migrated_form : (state_of (formatted small_old) (some_calls ++ advances 21 24)).form ≡ 2

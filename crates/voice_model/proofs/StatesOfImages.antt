@@ -4,10 +4,12 @@ use Rattle.std.specs.Prelude.{nat_le, bytes_eq}
 use Rattle.voice_units.specs.declared.shapes.Shape.{Shape}
 use Rattle.voice_units.specs.Spots.{Spot}
 use Rattle.voice_model.specs.Samples.{Tagged, spot_of}
-use Rattle.voice_model.specs.State.{State, opened, spelled_number}
-use Rattle.voice_model.specs.Spelling.{keeps_grammar, change_in, number_at}
+use Rattle.disk_areas.specs.Numbers.{spelled_number, number_at}
+use Rattle.disk_areas.specs.Areas.{Record, Records, Journal, JournalReading, Head, journal_in, by_records, by_head, by_shape, shape_in, magic, unless_damaged, records_from, if_open, if_sound, with_record}
+use Rattle.voice_model.specs.State.{State, opened}
+use Rattle.voice_model.specs.Spelling.{keeps_grammar, change_in}
 use Rattle.voice_model.specs.Replay.{Rebuilt, nothing_rebuilt, rebuilt, is_legal, acted, finished, filled, recovered}
-use Rattle.voice_model.specs.Image.{Record, Records, Replayed, Reading, Journal, JournalReading, Head, replayed, by_change, if_allowed, reading, by_journal, by_replay, journal_in, by_records, by_head, by_shape, shape_in, magic, unless_damaged, records_from, if_open, if_sound, with_record, opened_by, opened_from}
+use Rattle.voice_model.specs.Image.{Replayed, Reading, replayed, by_change, if_allowed, reading, by_journal, by_replay, opened_by, opened_from}
 use Rattle.voice_model.specs.Valid.{IsState, IsRebuilt}
 use Rattle.voice_model.specs.declared.changes.Change.{Change}
 use Rattle.voice_model.specs.declared.changes.Change.TheVariants as changes
@@ -100,6 +102,7 @@ open_gate true at later rs gate step e = step e
 open_gate false at later rs gate step e = let g = sound_same [] rs at gate e in omega (arith, g)
 
 gate_behind : (most area at : ℕ) (bytes : List ℕ) (rs : List Record) (gate : ℕ) → records_from most area at bytes ≡ Records.Sound rs gate → at ≤ gate
+unfolding records_from
 gate_behind zero area at bytes rs gate e = let g = sound_same [] rs at gate e in omega (arith, g)
 gate_behind (suc most) area at [] rs gate e = let g = sound_same [] rs at gate e in omega (arith, g)
 gate_behind (suc most) area at (b ∷ rest) rs gate e =
@@ -134,6 +137,7 @@ gate_of_shape version image None journal e = cc
 gate_of_shape version image (Some shape) journal e = undamaged _ _ _ journal (gate_of_head shape image _ journal) e
 
 gate_of_image : (image : List ℕ) (journal : Journal) → journal_in image ≡ JournalReading.Stands journal → 16 ≤ journal.gate
+unfolding journal_in
 gate_of_image image journal e =
     let version = number_at 4 8 image in
     let later = by_shape version image (shape_in version image) in

@@ -9,7 +9,8 @@ use Rattle.std.specs.List.{list_any}
 use Rattle.voice_units.specs.declared.shapes.Graces.{Graces}
 use Rattle.voice_units.specs.Spots.{slice, replaced}
 use Rattle.voice_model.specs.Samples.{Tagged, recording, pieces_in}
-use Rattle.voice_model.specs.State.{State, Durable, Live, Effect, samples_of, joined, is_row, has_row, with_rows, class_number, spelled_number, among, lane_at}
+use Rattle.disk_areas.specs.Numbers.{spelled_number}
+use Rattle.voice_model.specs.State.{State, Durable, Live, Effect, samples_of, joined, is_row, has_row, with_rows, class_number, among, lane_at}
 use Rattle.voice_model.specs.State.Effect.{Recorded, Edited, Retained, Forgotten, Counted, Swept, Advanced}
 use Rattle.voice_units.specs.Blocks.{BlockPair, distinct, blocks_for}
 use Rattle.voice_model.specs.Room.{pairs_of}

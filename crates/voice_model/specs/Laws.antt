@@ -21,7 +21,8 @@ use Rattle.voice_model.specs.Changes.{effect_of, changed, payload_size, base_siz
 use Rattle.voice_model.specs.Step.{Outcome, outcome_of, refusal, reply_by, state_after, after_answer, IsReply, IsAnswer, Step, Legal, after}
 use Rattle.voice_model.specs.Spelling.{spelling, keeps_grammar, change_in, Spells}
 use Rattle.voice_model.specs.Replay.{Placed, Rebuilt, nothing_rebuilt, rebuilt, is_legal, acted, finished, brings, recovered, durable_by, effect_by}
-use Rattle.voice_model.specs.Image.{Record, Replayed, Reading, Journal, replayed, reading, opened_from, recovered_from}
+use Rattle.disk_areas.specs.Areas.{Record, Journal}
+use Rattle.voice_model.specs.Image.{Replayed, Reading, replayed, reading, opened_from, recovered_from}
 use Rattle.voice_model.specs.Base.{change_of, base_of, framed_size, IsMade, HasAddresses}
 use Rattle.voice_model.specs.Places.{Pairwise, OfOtherBlock, IsOrdering, IsPlaced, AllUsed, CanBeSpelled, ReadsBack}
 use Rattle.voice_model.specs.Valid.{Every, IsState, InRange, IsFit, IsTimely, MayFit, MayBeTimely, TakesFree, IsRebuilt}

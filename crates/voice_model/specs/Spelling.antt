@@ -2,11 +2,12 @@
 --     spelling c      the bytes of a change
 --     keeps_grammar c      whether its fields lie in their ranges
 --     change_in bytes      the change that bytes spell, none where they spell none
-use Rattle.std.specs.Prelude.{◌≡◌, ℕ, zero, suc, ◌+◌, ◌/◌, ◌%◌, ◌^◌, Bool, true, false, ◌&&◌, ◌||◌, not, cond, ◌==◌, nat_lt, nat_le, List, [], ◌∷◌, ◌++◌, map, length, take, drop, flat_map, bytes_eq, Option, Some, None}
+use Rattle.std.specs.Prelude.{◌≡◌, ℕ, zero, suc, ◌+◌, ◌^◌, Bool, true, false, ◌&&◌, ◌||◌, not, cond, ◌==◌, nat_lt, nat_le, List, [], ◌∷◌, ◌++◌, map, length, take, drop, flat_map, bytes_eq, Option, Some, None}
 use Rattle.std.specs.List.{list_all}
 use Rattle.voice_units.specs.declared.pieces.Piece.{Piece}
 use Rattle.voice_units.specs.Spots.{slice, samples_in}
-use Rattle.voice_model.specs.State.{class_number, spelled_number}
+use Rattle.disk_areas.specs.Numbers.{spelled_number, number_at, number_bytes}
+use Rattle.voice_model.specs.State.{class_number}
 use Rattle.voice_model.specs.Talk.{parts}
 use Rattle.voice_model.specs.declared.lists.Pair.{Pair}
 use Rattle.voice_model.specs.declared.changes.Change.{Change}
@@ -15,11 +16,6 @@ use Rattle.voice_model.specs.declared.calls.Class.{Class}
 use Rattle.voice_model.specs.declared.calls.Class.TheVariants.{Held, Until, Listed}
 
 -- ---- the bytes of a change
-
--- a number in so many bytes, the highest first
-abbrev pub number_bytes : ℕ → ℕ → List ℕ
-number_bytes zero n = []
-number_bytes (suc width) n = (n / 256 ^ width) % 256 ∷ number_bytes width n
 
 abbrev pub piece_bytes : Piece → List ℕ
 piece_bytes p = number_bytes 8 p.file ++ number_bytes 4 p.from ++ number_bytes 4 p.len
@@ -125,10 +121,6 @@ pub record Spells (bytes : List ℕ) (c : Change) : Type 0 where
   pub grammar : keeps_grammar c ≡ true
 
 -- ---- the change that bytes spell
-
--- the number in `width` bytes from a place on
-abbrev pub number_at : ℕ → ℕ → List ℕ → ℕ
-number_at width from bytes = spelled_number (slice bytes from width)
 
 -- the bytes from a place on, in parts of one width
 abbrev pub parts_from : ℕ → ℕ → List ℕ → List (List ℕ)

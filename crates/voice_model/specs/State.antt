@@ -1,5 +1,5 @@
 -- The state of the voice manager, as plain lists of samples.
-use Rattle.std.specs.Prelude.{ℕ, ◌+◌, ◌-◌, ◌*◌, Bool, ◌&&◌, not, cond, ◌==◌, List, [], ◌∷◌, ◌++◌, map, slice_index_or, slice_set, Option, Some, None, is_some, replicate, bytes_eq, fold}
+use Rattle.std.specs.Prelude.{ℕ, ◌+◌, ◌-◌, Bool, ◌&&◌, not, cond, ◌==◌, List, [], ◌∷◌, ◌++◌, map, slice_index_or, slice_set, Option, Some, None, is_some, replicate, bytes_eq}
 use Rattle.std.specs.List.{list_any}
 use Rattle.voice_units.specs.declared.shapes.Shape.{Shape}
 use Rattle.voice_model.specs.Samples.{Tagged}
@@ -132,10 +132,6 @@ row_at (row ∷ rows) class key = cond (is_row class key row) (Some row) (row_at
 -- whether a rope has a row
 abbrev pub has_row : List Row → ℕ → Bool
 has_row rows id = list_any (λ row. row.rope == id) rows
-
--- the number that bytes spell, the first byte highest
-abbrev pub spelled_number : List ℕ → ℕ
-spelled_number bytes = fold (λ n b. n * 256 + b) 0 bytes
 
 -- a rope that has lost its last row, which was of this class, is idle since now; in form 2 it keeps the class
 abbrev pub settled : {A : Type 0} → ℕ → ℕ → ℕ → List Row → List Row → Live A → Live A

@@ -9,7 +9,8 @@
 use Rattle.std.specs.Prelude.{◌≡◌, ℕ, ◌+◌, ◌-◌, ◌/◌, ◌^◌, ◌≤◌, ◌<◌, ◌⊎◌, Bool, true, false, ◌&&◌, ◌||◌, not, cond, ◌==◌, nat_lt, nat_le, List, [], ◌∷◌, ◌++◌, map, length, count_by, Option, Some, None, is_some, is_none, IsTrue}
 use Rattle.voice_units.specs.Spots.{slice, replaced, window}
 use Rattle.voice_model.specs.Samples.{Tagged, bytes_of, spots_in_rope, pieces_in}
-use Rattle.voice_model.specs.State.{State, Job, LaneState, Effect, Pending, samples_of, joined, first_unknown, row_at, lane_at, with_lane, class_number, spelled_number}
+use Rattle.disk_areas.specs.Numbers.{spelled_number}
+use Rattle.voice_model.specs.State.{State, Job, LaneState, Effect, Pending, samples_of, joined, first_unknown, row_at, lane_at, with_lane, class_number}
 use Rattle.voice_units.specs.Blocks.{blocks_for}
 use Rattle.voice_model.specs.Room.{free}
 use Rattle.voice_model.specs.Talk.{talk, peaks}

@@ -17,7 +17,8 @@ use Rattle.voice_model.specs.declared.calls.Reply.{Reply}
 use Rattle.voice_model.specs.declared.calls.Why.TheVariants as why
 use Rattle.voice_model.specs.declared.changes.Change.{Change}
 use Rattle.voice_model.specs.declared.changes.Change.TheVariants as kinds
-use Rattle.recovery.specs.Shown.{Rebuilds, Shows}
+use Rattle.recovery.specs.Shown.{Shows}
+use Rattle.running_tables.specs.Running.{Runs}
 use Rattle.recovery.specs.declared.parts.Parts.{Parts}
 use Rattle.edits.specs.Shown.{before_journal}
 use Rattle.edits.proofs.Refusals.{journal_last}
@@ -33,6 +34,8 @@ use Rattle.next_changes.specs.declared.NextChange.TheVariants.{Other}
 use Rattle.next_changes.specs.Laws.{Keeps}
 use Rattle.next_changes.proofs.Given.{given, brings_rope, plain}
 use Rattle.next_changes.proofs.Called.{of_call}
+use Rattle.row_calls.specs.Asked as asked
+use Rattle.running_tables.proofs.Taken.{reshown}
 use Rattle.row_calls.specs.Asked.{is_row_call, Grows, IsChange}
 use Rattle.row_calls.specs.declared.outcomes.Growth.{Growth}
 use Rattle.voice_store.specs.declared.inside.Inside.{Inside}
@@ -67,15 +70,15 @@ module _ (s : Inside) (b : Rebuilt) (next : NextChange) (c : Change) (state : St
   -- the size that the tables tell is that of the state's base
   pub weighed_now : (size : ℕ) → Tells size s.parts → size ≡ base_size state.form state.kept
   weighed_now size told =
-      let is = given s.parts b next c w.is_next in
-      told [] b.kept w.fill is.shows w.fills.spots
-      ∙ ap (λ f. base_size f (durable_by w.fill b.kept)) (is.form ∙ w.fills.form) ∙ ap (base_size state.form) w.fills.kept
+      let is = given w.held w.takings s.parts b next c w.is_next in
+      told w.held b.kept w.fill is.runs.kept w.fills.spots
+      ∙ ap (λ f. base_size f (durable_by w.fill b.kept)) (is.runs.in_form ∙ w.fills.form) ∙ ap (base_size state.form) w.fills.kept
 
   -- the size that the tables tell in which the change is done is that of the base after it
-  pub weighed_after : (after : Parts) (size : ℕ) → Rebuilds after (acted b c) → Tells size after → size ≡ base_size state.form (changed state.form state.kept effect)
+  pub weighed_after : (after : Parts) (size : ℕ) → Runs w.held [] w.takings after (acted b c) → Tells size after → size ≡ base_size state.form (changed state.form state.kept effect)
   weighed_after after size shows told =
-      told [] (acted b c).kept w.later_fill shows.kept w.brings_it.spots
-      ∙ ap (λ f. base_size f (durable_by w.later_fill (acted b c).kept)) (shows.in_form ∙ acted_form b c (given s.parts b next c w.is_next).kind ∙ w.fills.form)
+      told w.held (acted b c).kept w.later_fill shows.kept w.brings_it.spots
+      ∙ ap (λ f. base_size f (durable_by w.later_fill (acted b c).kept)) (shows.in_form ∙ acted_form b c (given w.held w.takings s.parts b next c w.is_next).kind ∙ w.fills.form)
       ∙ ap (base_size state.form) w.brings_it.kept
 
 module _ (first : State) (t0 : ℕ) (disk : Told) (s : Inside) (call : Call) (ready : ReadyChange) (reply : Reply) (growth : Growth) (h : Alters first t0 disk s call ready reply growth) where
@@ -85,7 +88,7 @@ module _ (first : State) (t0 : ℕ) (disk : Told) (s : Inside) (call : Call) (re
   abbrev b : Rebuilt
   b = h.stood.b
 
-  abbrev sure : IsSure s b h.stood.after last
+  abbrev sure : IsSure h.stood.held h.stood.takings s b h.stood.after last
   sure = is_sure first t0 disk s h.stood h.sure
 
   making : IsMaking last (tapes_of s) call
@@ -95,8 +98,8 @@ module _ (first : State) (t0 : ℕ) (disk : Told) (s : Inside) (call : Call) (re
   early = sym (ap (λ v. first_of (cond v (all_but_last (conditions last (tapes_of s) call)) (conditions last (tapes_of s) call))) making.changing) ∙ h.makes.unrefused
 
   -- what is ready may follow
-  pub keeps : Keeps h.stood.fill s.parts b last ready (effect_of last (tapes_of s) call)
-  keeps = of_call h.stood.fill h.stood.upright.fills.spots s.parts b last (tapes_of s) call ready sure.tables h.stood.upright.fills.kept h.stood.upright.fills.form h.stood.upright.valid h.range early h.makes.is_ready
+  pub keeps : Keeps h.stood.held h.stood.takings h.stood.fill s.parts b last ready (effect_of last (tapes_of s) call)
+  keeps = of_call h.stood.held h.stood.takings h.stood.fill h.stood.upright.fills.spots s.parts b last (tapes_of s) call ready sure.tables h.stood.upright.fills.kept h.stood.upright.fills.form h.stood.upright.valid h.range early h.makes.is_ready
 
   abbrev pub effect : Effect Tagged
   effect = keeps.effect
@@ -105,10 +108,12 @@ module _ (first : State) (t0 : ℕ) (disk : Told) (s : Inside) (call : Call) (re
   change = change_of b.form [] effect
 
   pub ready_in : IsReadyIn s (Other ready)
-  ready_in = record { b = b; c = change; ready = keeps.next; in_shape = same_shape first t0 disk s h.stood h.sure }
+  ready_in = record { held = h.stood.held; takings = h.stood.takings; b = b; c = change; ready = keeps.next; in_shape = same_shape first t0 disk s h.stood h.sure }
 
   pub weighs : Weighs s b (Other ready) change last effect
   weighs = record {
+    held = h.stood.held;
+    takings = h.stood.takings;
     is_next = keeps.next;
     in_shape = same_shape first t0 disk s h.stood h.sure;
     fill = h.stood.fill;
@@ -128,7 +133,7 @@ module _ (first : State) (t0 : ℕ) (disk : Told) (s : Inside) (call : Call) (re
       journal_last.late last (tapes_of s) call h.makes.unrefused ∙ ap (if_full last) keeps.is ∙ ap (λ b. when b (journal_full last effect)) full.0 ∙ ap Some full.1
 
   -- or it does not
-  altering_free : is_journal_full last effect ≡ false → refusal last (tapes_of s) call ≡ None
+  pub altering_free : is_journal_full last effect ≡ false → refusal last (tapes_of s) call ≡ None
   altering_free free = journal_last.late last (tapes_of s) call h.makes.unrefused ∙ ap (if_full last) keeps.is ∙ ap (λ b. when b (journal_full last effect)) free
 
   no_rope : brings_rope change ≡ false
@@ -142,6 +147,9 @@ module _ (first : State) (t0 : ℕ) (disk : Told) (s : Inside) (call : Call) (re
         upright = up;
         sure = h.sure;
         in_journal = sure.in_journal;
+        held = h.stood.held;
+        takings = h.stood.takings;
+        holding = h.stood.holding;
         ready = keeps.next;
         addresses = [];
         change = refl;
@@ -160,14 +168,23 @@ module _ (first : State) (t0 : ℕ) (disk : Told) (s : Inside) (call : Call) (re
 
 -- ---- once the tables were asked
 
-module _ (first : State) (t0 : ℕ) (disk : Told) (s : Inside) (stood : Stood first t0 disk s) (none : s.doubt ≡ None) (parts : Parts) (shows : Rebuilds parts stood.b) where
+module _ (first : State) (t0 : ℕ) (disk : Told) (s : Inside) (stood : Stood first t0 disk s) (none : s.doubt ≡ None) where
+  -- what the tables tell, whatever the map of blocks has
+  pub told : asked.Tells stood.held s.parts stood.b
+  told = let tables = (is_sure first t0 disk s stood none).tables in record { kept = tables.kept; in_form = tables.in_form; valid = tables.valid }
+
+  -- after the question they show what they did
+  pub asked_on : (parts : Parts) → Shows stood.held parts stood.b.kept → parts.form ≡ s.parts.form → parts.blocks ≡ s.parts.blocks → Runs stood.held [] stood.takings parts stood.b
+  asked_on parts shows form blocks = reshown stood.held [] stood.takings s.parts parts stood.b (is_sure first t0 disk s stood none).tables shows form (ap (λ x. x.holders) blocks)
+
+module _ (first : State) (t0 : ℕ) (disk : Told) (s : Inside) (stood : Stood first t0 disk s) (none : s.doubt ≡ None) (parts : Parts) (shows : Runs stood.held [] stood.takings parts stood.b) where
   abbrev then : Inside
   then = record s { parts = parts }
 
   abbrev now : State
   now = last_of first s
 
-  abbrev was : IsSure s stood.b stood.after now
+  abbrev was : IsSure stood.held stood.takings s stood.b stood.after now
   was = is_sure first t0 disk s stood none
 
   abbrev pub stood_on : Stood first t0 disk then
@@ -175,6 +192,9 @@ module _ (first : State) (t0 : ℕ) (disk : Told) (s : Inside) (stood : Stood fi
     fill = stood.fill;
     b = stood.b;
     after = stood.b;
+    held = stood.held;
+    takings = stood.takings;
+    holding = stood.holding;
     upright = upright_by first t0 disk s stood none parts;
     tables = inl (record { sure = none; in_journal = was.in_journal; in_state = was.in_state; tables = shows; same = refl });
     size = stood.size;

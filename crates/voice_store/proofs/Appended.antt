@@ -23,7 +23,7 @@ use Rattle.next_changes.specs.declared.NextChange.{NextChange}
 use Rattle.next_changes.specs.Next.{payload_of}
 use Rattle.next_changes.specs.Laws.{IsGiven}
 use Rattle.next_changes.proofs.Given.{given}
-use Rattle.recovery.specs.Shown.{Rebuilds}
+use Rattle.running_tables.specs.Running.{Runs}
 use Rattle.recovery.specs.declared.parts.Parts.{Parts}
 use Rattle.crash_laws.specs.Standing.{IsLater}
 use Rattle.crash_laws.specs.Calls.{Does, Undoes, Doubts, StaysWithin, IsChange, KeepsDurable, IsCommitted, IsInDoubt}
@@ -88,15 +88,15 @@ module _ (first : State) (t0 : ℕ) (old new : Told) (s s' : Inside) (b : Rebuil
       record { kept = ap (λ (t : State). t.kept) is; doubt = ap (λ (t : State). t.doubt) is; form = ap (λ (t : State). t.form) is; left = ap (λ (t : State). t.left) is }
 
   pub failed_stood : s'.tapes ≡ s.tapes → s'.history.items ≡ s.history.items ++ entry_failed ∷ []
-      → s'.journal.shape ≡ s.journal.shape → s'.journal.seat ≡ s.journal.seat → s'.journal.doubt ≡ None → s'.doubt ≡ None → Rebuilds s'.parts b
+      → s'.journal.shape ≡ s.journal.shape → s'.journal.seat ≡ s.journal.seat → s'.journal.doubt ≡ None → s'.doubt ≡ None → Runs tr.held [] tr.takings s'.parts b
       → FailuresCarry old new → (IsTrue old.honest → Undoes s.journal s'.journal old new) → Stood first t0 new s'
   failed_stood tapes items shape seat sure none tables carry undoes =
       stood_failed first t0 old new s s' b next c effect caller call reply tr later sizes alike tapes items shape seat sure none tables
       (λ h. let h' = honest h in
       carry.before first (tapes_of s) t0 s.journal s'.journal b b s.history.items entry_failed (moments h') (tr.upright.held h') tr.may.sure (undoes h') refl stays_durable)
 
-  abbrev gives : IsGiven s.parts b next c
-  gives = given s.parts b next c tr.ready
+  abbrev gives : IsGiven tr.held tr.takings s.parts b next c
+  gives = given tr.held tr.takings s.parts b next c tr.ready
 
   module _ (payload : List ℕ) (payload_is : payload ≡ payload_of next) (fits : FitsBehind end effect) where
     abbrev then : State
@@ -134,7 +134,7 @@ module _ (first : State) (t0 : ℕ) (old new : Told) (s s' : Inside) (b : Rebuil
 
     pub appended_stood : s'.tapes ≡ s.tapes → s'.history.items ≡ s.history.items ++ entry_done ∷ []
         → s'.journal.shape ≡ s.journal.shape → s'.journal.seat ≡ landed_seat s.journal.seat (Record (length payload)) → s'.journal.doubt ≡ None → s'.doubt ≡ None
-        → Rebuilds s'.parts (acted b c)
+        → Runs tr.held [] tr.takings s'.parts (acted b c)
         → AppendsCarry old new → (IsTrue old.honest → Does (λ r. with_payload r payload) s.journal s'.journal old new × StaysWithin (λ r. with_payload r payload) s.journal old new)
         → Stood first t0 new s'
     appended_stood tapes items shape seat sure none tables carry does =
@@ -148,8 +148,8 @@ module _ (first : State) (t0 : ℕ) (old new : Told) (s s' : Inside) (b : Rebuil
         record { kept = ap (λ (t : State). t.kept) is; doubt = ap (λ (t : State). t.doubt) is; form = ap (λ (t : State). t.form) is; left = ap (λ (t : State). t.left) is }
 
     -- the tables once it lands
-    in_form_then : (parts : Parts) → Rebuilds parts (acted b c) → Rebuilds (in_form s.parts.form parts) (acted b c)
-    in_form_then parts shows = subst (λ (f : ℕ). Rebuilds (in_form f parts) (acted b c)) (shows.in_form ∙ acted_form b c gives.kind ∙ sym gives.form) shows
+    in_form_then : (parts : Parts) → Runs tr.held [] tr.takings parts (acted b c) → Runs tr.held [] tr.takings (in_form s.parts.form parts) (acted b c)
+    in_form_then parts shows = subst (λ (f : ℕ). Runs tr.held [] tr.takings (in_form f parts) (acted b c)) (shows.in_form ∙ acted_form b c gives.kind ∙ sym gives.runs.in_form) shows
 
     pub append_waits : (doubted : Doubted) → doubted.next ≡ next → doubted.form ≡ s.parts.form → s'.tapes ≡ s.tapes
         → s'.history.items ≡ s.history.items ++ entry_waits ∷ []
@@ -158,7 +158,7 @@ module _ (first : State) (t0 : ℕ) (old new : Told) (s s' : Inside) (b : Rebuil
         → Stood first t0 new s'
     append_waits doubted same form tapes items shape seat unsure some parts carry doubts =
         stood_waits first t0 old new s s' b next c effect caller call reply tr later sizes alike (acted b c) (Record (length payload)) doubted same tapes items shape seat unsure some parts
-        (λ p shows. subst (λ (f : ℕ). Rebuilds (in_form f p) (acted b c)) (sym form) (in_form_then p shows))
+        (λ p shows. subst (λ (f : ℕ). Runs tr.held [] tr.takings (in_form f p) (acted b c)) (sym form) (in_form_then p shows))
         fills_then
         seated_then
         (λ h. let h' = honest h in let d = doubts h' in

@@ -17,7 +17,7 @@ use Rattle.crash_laws.specs.Standing.{IsHeld, IsHonest}
 use Rattle.crash_laws.specs.Calls.{KeepsDurable}
 use Rattle.crash_laws.specs.Laws.{EntriesCount}
 use Rattle.voice_store.specs.declared.inside.Inside.{Inside}
-use Rattle.voice_store.specs.Stood.{last_state, tapes_of, last_of, Fills, Brings, IsSeated, AcksRise, AreQuiet, Upright, IsSure, Lands, IsUnsure, Stood}
+use Rattle.voice_store.specs.Stood.{last_state, tapes_of, last_of, Fills, Brings, IsSeated, AcksRise, IsHolding, Upright, IsSure, Lands, IsUnsure, Stood}
 
 pub after_one : (s : State) (tapes : List (List ℕ)) (es : List Entry) (e : Entry) → after s tapes (es ++ e ∷ []) ≡ state_after (after s tapes es) tapes e
 after_one s tapes es e = after-append s tapes es (e ∷ [])
@@ -85,10 +85,12 @@ module _ (first : State) (t0 : ℕ) (disk : Told) (s : Inside) (history : Vec En
         fill = stood.fill;
         b = stood.b;
         after = stood.after;
+        held = stood.held;
+        takings = stood.takings;
+        holding = subst (λ (t : State). IsHolding stood.held stood.takings s.journal.shape.block t.lanes) (sym more.last) stood.holding;
         upright = record {
           legal = more.legal;
           valid = subst (λ (t : State). IsState t) (sym more.last) stood.upright.valid;
-          quiet = subst (λ (t : State). AreQuiet t.lanes) (sym more.last) stood.upright.quiet;
           fills = subst (λ (t : State). Fills stood.fill stood.b t) (sym more.last) stood.upright.fills;
           seated = subst (λ (t : State). IsSeated s.journal t) (sym more.last) stood.upright.seated;
           acks = more.acks;
@@ -98,8 +100,8 @@ module _ (first : State) (t0 : ℕ) (disk : Told) (s : Inside) (history : Vec En
         size = stood.size;
       }
     where
-      tables_noted : IsSure s stood.b stood.after (last_of first s) ⊎ IsUnsure s stood.b stood.after (last_of first s) → last_of first entered ≡ last_of first s
-          → IsSure entered stood.b stood.after (last_of first entered) ⊎ IsUnsure entered stood.b stood.after (last_of first entered)
+      tables_noted : IsSure stood.held stood.takings s stood.b stood.after (last_of first s) ⊎ IsUnsure stood.held stood.takings s stood.b stood.after (last_of first s) → last_of first entered ≡ last_of first s
+          → IsSure stood.held stood.takings entered stood.b stood.after (last_of first entered) ⊎ IsUnsure stood.held stood.takings entered stood.b stood.after (last_of first entered)
       tables_noted (inl sure) last = inl (record { sure = sure.sure; in_journal = sure.in_journal; in_state = ap (λ (t : State). t.doubt) last ∙ sure.in_state; tables = sure.tables; same = sure.same })
       tables_noted (inr unsure) last = inr (record {
         doubted = unsure.doubted;
@@ -114,5 +116,5 @@ module _ (first : State) (t0 : ℕ) (disk : Told) (s : Inside) (history : Vec En
         spelled = unsure.spelled;
         later_fill = unsure.later_fill;
         brings_it = subst (λ (t : State). Brings unsure.later_fill stood.b unsure.change t unsure.pending.effect) (sym last) unsure.brings_it;
-        lands = subst (λ (t : State). Lands s.journal unsure.doubted stood.b stood.after t unsure.change unsure.doubt) (sym last) unsure.lands;
+        lands = subst (λ (t : State). Lands stood.held stood.takings s.journal unsure.doubted stood.b stood.after t unsure.change unsure.doubt) (sym last) unsure.lands;
       })

@@ -1,9 +1,7 @@
 -- How long a recording is that only the journal may refuse, and how few device calls its samples take.
-use Rattle.std.proofs.Common.{◌≡◌, ℕ, ◌+◌, ◌-◌, ◌*◌, ◌/◌, ◌≤◌, ◌<◌, ◌^◌, List, [], ◌∷◌, length, Option, None, sym, ◌∙◌, ap, subst, arith}
+use Rattle.std.proofs.Common.{◌≡◌, ℕ, ◌≤◌, ◌<◌, ◌^◌, List, [], ◌∷◌, length, Option, None, sym, ◌∙◌, subst, arith}
 use Rattle.std.specs.Prelude.{nat_lt, slice_index, Result, Ok, Err, OnOk}
 use Rattle.std.proofs.lemmas.Bool.{ltb-false}
-use Rattle.std.proofs.lemmas.Nat.{div_below}
-use Rattle.std.proofs.Math.Nat.{mul-le-mul_right, add-mul, one-mul}
 use Rattle.voice_units.specs.Blocks.{blocks_for}
 use Rattle.voice_units.specs.declared.pieces.Take.{Take}
 use Rattle.voice_units.specs.declared.shapes.Shape.{Shape}
@@ -20,15 +18,6 @@ use Rattle.voice_store.specs.declared.inside.Inside.{Inside}
 use Rattle.voice_store.specs.Stood.{tapes_of}
 use Rattle.voice_store.specs.Keeping.{MakesRecording, refused_by}
 use Rattle.voice_store.proofs.Recorded.{taken_many, refused_so}
-
-pub blocks_few : (block n : ℕ) → 1 ≤ block → blocks_for block n ≤ n
-blocks_few block n some =
-    let parts : (n + 1) * block ≡ n * block + block = add-mul n 1 block ∙ ap (λ m. n * block + m) (one-mul block) in
-    let once : 1 * n ≤ block * n = mul-le-mul_right n some in
-    let plain : 1 * n ≡ n = one-mul n in
-    let turned : block * n ≡ n * block = omega arith in
-    let below : (n + (block - 1)) / block < n + 1 = div_below (n + (block - 1)) block (n + 1) some (omega (arith, parts, once, plain, turned, some)) in
-    omega (arith, below)
 
 pub made_fewer : {T E : Type 0} (few many : ℕ) (old new : Told) (r : Result T E) → few ≤ many → MakesAtMost few old new r → MakesAtMost many old new r
 made_fewer few many old new r le made = record {

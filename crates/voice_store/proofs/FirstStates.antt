@@ -4,7 +4,7 @@ use Rattle.std.proofs.lemmas.List.{length-replicate}
 use Rattle.std.specs.Prelude.{slice_get}
 use Rattle.voice_units.specs.declared.shapes.Shape.{Shape}
 use Rattle.voice_outside.specs.Disk.{Told}
-use Rattle.voice_journal.specs.Image as journal
+use Rattle.disk_areas.specs.Areas as journal
 use Rattle.voice_journal.specs.Places.{JournalValue}
 use Rattle.voice_journal.specs.Parsed.{placed, shown}
 use Rattle.voice_journal.specs.Readings.{extent, record_at}
@@ -22,6 +22,9 @@ use Rattle.voice_model.specs.Valid.{IsState}
 use Rattle.voice_model.specs.declared.calls.Entry.{Entry}
 use Rattle.voice_model.proofs.Heard.{legal_on-none}
 use Rattle.recovery.specs.Shown.{Rebuilds, numbered}
+use Rattle.running_tables.specs.Running.{Runs, held_in, pledged_in, takings_in, takings_of}
+use Rattle.running_tables.proofs.Dropped.{repledged}
+use Rattle.running_tables.proofs.Quiet.{quiet}
 use Rattle.journal_readings.specs.Readings.{payloads_of, Rebuild}
 use Rattle.journal_readings.proofs.Openings.{numbered_all, numbered_bad}
 use Rattle.journal_readings.proofs.Replays.{valid, state}
@@ -29,7 +32,7 @@ use Rattle.crash_laws.specs.Standing.{IsHeld, IsHonest, first_state}
 use Rattle.crash_laws.specs.Laws.{OpeningHolds}
 use Rattle.voice_store.specs.declared.inside.Inside.{Inside}
 use Rattle.recovery.specs.Replayed.{bytes_of, records_of}
-use Rattle.voice_store.specs.Stood.{tapes_of, last_of, Fills, IsSeated, AcksRise, AreQuiet, Stood, IsSure}
+use Rattle.voice_store.specs.Stood.{tapes_of, last_of, Fills, IsSeated, AcksRise, IsHolding, Stood, IsSure}
 use Rattle.std.specs.Prelude.{count_by}
 use Rattle.voice_store.specs.Shown.{Stands}
 use Rattle.voice_store.specs.Stood.{is_fault}
@@ -131,6 +134,12 @@ module _ (t0 : ℕ) (bytes : List ℕ) (disk : Told) (s : Inside) (b : Rebuilt) 
   of_last : (P : State → Type 0) → P begin → P (last_of begin s)
   of_last P p = subst P (sym still_first) p
 
+  -- the lanes of the first state hold nothing
+  begin_runs : Rebuilds s.parts b → Runs (held_in begin) [] (takings_in begin) s.parts b
+  begin_runs tables =
+      repledged (held_in begin) (pledged_in begin) [] (takings_in begin) s.parts b (λ pair. refl)
+      (quiet s.parts b begin tables (ap (λ (n : ℕ). replicate n quiet_lane) (sym (length-replicate begin.kept.shape.lanes quiet_lane))) refl)
+
   pub stood_first : replayed (nothing_rebuilt s.journal.shape) (records_of ps) ≡ Replayed.All b → Rebuilds s.parts b → s.doubt ≡ None → s.journal.doubt ≡ None
       → 16 ≤ s.journal.seat.gate → s.journal.seat.gate < s.journal.shape.area
       → t0 ≤ disk.calls → extent s.journal.shape ≤ disk.size → (IsTrue disk.honest → IsHeld begin (tapes_of s) t0 s.journal disk b b [])
@@ -139,10 +148,12 @@ module _ (t0 : ℕ) (bytes : List ℕ) (disk : Told) (s : Inside) (b : Rebuilt) 
     fill = filled bytes b;
     b = b;
     after = b;
+    held = held_in begin;
+    takings = takings_in begin;
+    holding = of_last (λ t. IsHolding (held_in begin) (takings_in begin) s.journal.shape.block t.lanes) (record { passages = refl; recordings = ap (λ (x : Shape). takings_of x.block begin.lanes) (shape_rebuilt s.journal.shape ps b rebuilds) });
     upright = record {
       legal = subst (λ (l : List Entry). LegalOn disk.honest begin (tapes_of s) l) (sym items) (legal_on-none disk.honest begin (tapes_of s));
       valid = of_last (λ t. IsState t) (first_valid bytes s.journal.shape ps b (s.journal.shape.area - 1 - s.journal.seat.gate) s.journal.seat.epoch rebuilds (omega (arith, from, within)));
-      quiet = of_last (λ t. AreQuiet t.lanes) (ap (λ (n : ℕ). replicate n quiet_lane) (sym (length-replicate begin.kept.shape.lanes quiet_lane)));
       fills = of_last (λ t. Fills (filled bytes b) b t) (record { spots = λ x. refl; kept = refl; form = refl });
       seated = of_last (λ t. IsSeated s.journal t) (record {
         shape = shape_rebuilt s.journal.shape ps b rebuilds;
@@ -152,7 +163,7 @@ module _ (t0 : ℕ) (bytes : List ℕ) (disk : Told) (s : Inside) (b : Rebuilt) 
       acks = subst (λ (l : List Entry). AcksRise t0 l disk.calls) (sym items) past;
       held = λ honest. subst (λ (l : List Entry). IsHeld begin (tapes_of s) t0 s.journal disk b b l) (sym items) (held honest);
     };
-    tables = inl (of_last (λ t. IsSure s b b t) (record { sure = none; in_journal = sure; in_state = refl; tables = tables; same = refl }));
+    tables = inl (of_last (λ t. IsSure (held_in begin) (takings_in begin) s b b t) (record { sure = none; in_journal = sure; in_state = refl; tables = begin_runs tables; same = refl }));
     size = size;
   }
 

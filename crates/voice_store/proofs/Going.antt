@@ -49,12 +49,12 @@ module _ (first : State) (t0 : ℕ) (disk : Told) (s : Inside) (b : Rebuilt) (ne
       let size = h.frame in
       omega (arith, fits, left, size)
 
-  abbrev gives : IsGiven s.parts b next c
-  gives = given s.parts b next c h.ready
+  abbrev gives : IsGiven h.held h.takings s.parts b next c
+  gives = given h.held h.takings s.parts b next c h.ready
 
   sized : (form : ℕ) → changes.framed_size (base_of form r) ≡ base_size form (changed last.form last.kept effect)
   sized form =
-      base_sized h.later_fill h.brings_it.spots form r (placed_next b c gives.placed gives.legal gives.grammar) (subst (λ x. AllUsed (acted b x)) (sym h.change) (used_acted b b.form h.addresses effect))
+      base_sized h.later_fill h.brings_it.spots form r (placed_next b c gives.runs.placed gives.legal gives.grammar) (subst (λ x. AllUsed (acted b x)) (sym h.change) (used_acted b b.form h.addresses effect))
       ∙ ap (base_size form) h.brings_it.kept
 
   same_form : r.form ≡ last.form

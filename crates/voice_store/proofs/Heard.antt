@@ -9,14 +9,14 @@ use Rattle.voice_units.specs.Spots.{Spot, spots_of, samples_in, stretches}
 use Rattle.voice_units.specs.Blocks.{BlockPair, same_pair, has_pair, pair_at, pairs_at}
 use Rattle.voice_units.proofs.Distinct.{same_pair-true}
 use Rattle.voice_outside.specs.Disk.{Told}
-use Rattle.voice_blocks.specs.Holders.{holder_at, block_of}
+use Rattle.voice_blocks.specs.Holders.{Holders, holder_at, block_of}
 use Rattle.voice_blocks.specs.declared.owner.Owner.TheVariants.{File}
 use Rattle.voice_model.specs.Samples.{Tagged, bytes_of, spot_of, spots_in_rope}
 use Rattle.voice_model.specs.Heard.{unheard, IsReplyOn}
 use Rattle.voice_model.specs.State.{State, Live, Durable, rope_at, samples_of, samples_or_none, first_unknown}
 use Rattle.voice_model.specs.Step.{Outcome, outcome_of, refusal, reply_of, reply_by, first_of, if_unknown, reaches_device, IsAtDevice, IsReply, after, after_answer, after_reply, state_by, state_after, nothing_to_land}
 use Rattle.voice_model.specs.Replay.{Placed, Rebuilt, has_place, has_address, address_of, filled, live_by, durable_by, recovered}
-use Rattle.voice_model.specs.Places.{Pairwise, AtOtherAddress, IsPlace, IsPlaced}
+use Rattle.voice_model.specs.Places.{IsPlace, IsPlaced}
 use Rattle.voice_model.specs.Valid.{Every, IsRope}
 use Rattle.voice_model.specs.declared.calls.Call.{Call}
 use Rattle.voice_model.specs.declared.calls.Entry.{Entry}
@@ -26,11 +26,9 @@ use Rattle.voice_model.specs.declared.calls.Why.TheVariants as why
 use Rattle.voice_model.proofs.Answers.{answered_outcome}
 use Rattle.voice_model.proofs.Heard.{reply_on, same_outcome}
 use Rattle.built_calls.specs.Built.{is_built}
-use Rattle.recovery.specs.Shown.{ShowsPlaces, placed_at}
+use Rattle.checkpoint.specs.Blocks.{IsHeld as IsAt}
 use Rattle.next_changes.proofs.Given.{given}
-use Rattle.voice_model.specs.Replay.{new_places}
 use Rattle.fillings.proofs.Counting.{or_cases}
-use Rattle.fillings.proofs.Filling.{address_there}
 use Rattle.rope_table.specs.Table.{pieces_at}
 use Rattle.edits.specs.Tables.{pieces_here}
 use Rattle.edits.proofs.Seen.{spots_shown, rope_length, its_pieces, missing_shown, a_rope, no_rope}
@@ -44,37 +42,25 @@ use Rattle.voice_store.specs.declared.inside.Inside.{Inside}
 use Rattle.voice_store.specs.declared.hearing.Sound.{Sound}
 use Rattle.voice_store.specs.declared.hearing.Sound.TheVariants as sounds
 use Rattle.voice_store.specs.Stood.{last_of, tapes_of, IsSure, IsUnsure, Stood}
-use Rattle.voice_store.specs.Facts.{Goes, Stays, entry_of, stretches_of, most_reads, most_calls}
+use Rattle.voice_model.specs.Changes.{is_changing}
+use Rattle.voice_store.specs.Facts.{Stays, entry_of, stretches_of, most_reads}
+use Rattle.voice_store.specs.DeviceCalls.{landing_calls, most_calls}
+use Rattle.voice_store.proofs.Counted.{most_other}
 use Rattle.voice_store.specs.Hearing.{IsHeard, call_for, sounding}
 use Rattle.voice_store.proofs.Refused.{wrong, kept_again, stood_shows, may_answer, is_reply, stays_home, answered_so}
 use Rattle.voice_store.proofs.Pushed.{stood_went_on}
 
 -- ---- the address of a block with a place
 
-differs : (x y a : ℕ) → ¬ (x ≡ y) → (y == a) ≡ true → (x == a) ≡ false
-differs x y a n e = by (x == a) refl
-  where
-    by : (b : Bool) → (x == a) ≡ b → (x == a) ≡ false
-    by false k = k
-    by true k = absurd (n (eqb-true x a k ∙ sym (eqb-true y a e)))
-
-other_address : (p : Placed) (ps : List Placed) (a : ℕ) → Every (AtOtherAddress p) ps → has_address ps a ≡ true → (p.address == a) ≡ false
-other_address p [] a h k = absurd (wrong k)
-other_address p (q ∷ qs) a h k = or_cases (q.address == a) (has_address qs a) (λ e. differs p.address q.address a h.0 e) (λ e. other_address p qs a h.1 e) k
-
-there_by : (p : Placed) (ps more : List Placed) (pair : BlockPair) (same : Bool) → same_pair p.pair pair ≡ same → (same || has_place ps pair) ≡ true → Every (AtOtherAddress p) ps
-    → (has_place ps pair ≡ true → placed_at (ps ++ more) (address_of ps pair) ≡ Some (block_of (File pair.file) pair.index))
-    → placed_at (p ∷ ps ++ more) (cond same p.address (address_of ps pair)) ≡ Some (block_of (File pair.file) pair.index)
-there_by p ps more pair true e h other step =
-    ap (λ b. cond b (Some (block_of (File p.pair.file) p.pair.index)) (placed_at (ps ++ more) p.address)) (eq-eqb p.address p.address refl)
-    ∙ ap (λ (q : BlockPair). Some (block_of (File q.file) q.index)) (same_pair-true p.pair pair e)
-there_by p ps more pair false e h other step =
-    ap (λ b. cond b (Some (block_of (File p.pair.file) p.pair.index)) (placed_at (ps ++ more) (address_of ps pair))) (other_address p ps (address_of ps pair) other (address_there ps pair h)) ∙ step h
-
 -- it holds the block
-placed_there : (ps more : List Placed) (pair : BlockPair) → Pairwise AtOtherAddress ps → has_place ps pair ≡ true → placed_at (ps ++ more) (address_of ps pair) ≡ Some (block_of (File pair.file) pair.index)
-placed_there [] more pair differ h = absurd (wrong h)
-placed_there (p ∷ ps) more pair differ h = there_by p ps more pair (same_pair p.pair pair) refl h differ.0 (placed_there ps more pair differ.1)
+there_held : (hs : Holders) (places : List Placed) (pair : BlockPair) → Every (IsAt hs) places → has_place places pair ≡ true → holder_at hs (address_of places pair) ≡ Some (block_of (File pair.file) pair.index)
+there_held hs [] pair held e = absurd (wrong e)
+there_held hs (p ∷ ps) pair held e = by (same_pair p.pair pair) refl (there_held hs ps pair held.1) e
+  where
+    by : (same : Bool) → same_pair p.pair pair ≡ same → (has_place ps pair ≡ true → holder_at hs (address_of ps pair) ≡ Some (block_of (File pair.file) pair.index)) → (same || has_place ps pair) ≡ true
+        → holder_at hs (cond same p.address (address_of ps pair)) ≡ Some (block_of (File pair.file) pair.index)
+    by true k later e = held.0 ∙ ap (λ (q : BlockPair). Some (block_of (File q.file) q.index)) (same_pair-true p.pair pair k)
+    by false k later e = later e
 
 -- ---- the samples of a rope by its number
 
@@ -117,8 +103,8 @@ bytes_filled image b (s ∷ ss) = ap (λ l. (filled image b s).byte ∷ l) (byte
 
 -- the map holds the places of what is rebuilt
 record Placing (s : Inside) (b : Rebuilt) : Type 0 where
-  more : List Placed
-  places : ShowsPlaces s.parts.blocks.holders b.shape.blocks (b.places ++ more)
+  size : length s.parts.blocks.holders ≡ b.shape.blocks
+  addresses : Every (IsAt s.parts.blocks.holders) b.places
   placed : IsPlaced b
 
 module _ (first : State) (t0 : ℕ) (disk : Told) (s : Inside) (stood : Stood first t0 disk s) where
@@ -128,13 +114,11 @@ module _ (first : State) (t0 : ℕ) (disk : Told) (s : Inside) (stood : Stood fi
   abbrev b : Rebuilt
   b = stood.b
 
-  placing_by : IsSure s b stood.after last ⊎ IsUnsure s b stood.after last → Placing s b
-  placing_by (inl sure) = record {
-    more = [];
-    places = subst (λ (l : List Placed). ShowsPlaces s.parts.blocks.holders b.shape.blocks l) (sym (append-nil b.places)) sure.tables.places;
-    placed = sure.tables.placed;
-  }
-  placing_by (inr unsure) = let g = given s.parts b unsure.doubted.next unsure.change unsure.ready in record { more = new_places unsure.change; places = g.places; placed = g.placed }
+  placing_by : IsSure stood.held stood.takings s b stood.after last ⊎ IsUnsure stood.held stood.takings s b stood.after last → Placing s b
+  placing_by (inl sure) = record { size = sure.tables.size; addresses = sure.tables.addresses; placed = sure.tables.placed }
+  placing_by (inr unsure) =
+      let runs = (given stood.held stood.takings s.parts b unsure.doubted.next unsure.change unsure.ready).runs in
+      record { size = runs.size; addresses = runs.addresses; placed = runs.placed }
 
   placing : Placing s b
   placing = placing_by stood.tables
@@ -143,14 +127,14 @@ module _ (first : State) (t0 : ℕ) (disk : Told) (s : Inside) (stood : Stood fi
   shape_is = ap (λ (d : Durable Tagged). d.shape) stood.upright.fills.kept ∙ stood.upright.seated.shape
 
   pub count_is : length s.parts.blocks.holders ≡ s.journal.shape.blocks
-  count_is = placing.places.size ∙ ap (λ (x : Shape). x.blocks) shape_is
+  count_is = placing.size ∙ ap (λ (x : Shape). x.blocks) shape_is
 
   module _ (id : ℕ) (ps : List Piece) (live : Some ps ≡ pieces_at s.parts.ropes.ropes id) where
     pub spots_are : spots_of ps ≡ spots_in_rope (samples_of last.ropes id)
-    spots_are = ap spots_of (sym (its_pieces s.parts.ropes.ropes id ps live)) ∙ spots_shown [] s.parts last (stood_shows first t0 disk s stood) id
+    spots_are = ap spots_of (sym (its_pieces s.parts.ropes.ropes id ps live)) ∙ spots_shown stood.held s.parts last (stood_shows first t0 disk s stood) id
 
     pub length_is : samples_in ps ≡ length (samples_of last.ropes id)
-    length_is = ap samples_in (sym (its_pieces s.parts.ropes.ropes id ps live)) ∙ rope_length [] s.parts last (stood_shows first t0 disk s stood) id
+    length_is = ap samples_in (sym (its_pieces s.parts.ropes.ropes id ps live)) ∙ rope_length stood.held s.parts last (stood_shows first t0 disk s stood) id
 
     pub long : samples_in ps ≤ 2 ^ 30
     long = let most = long_of last.form last.moment last.ropes id stood.upright.valid.kept.each_rope in omega (arith, most, length_is)
@@ -165,7 +149,7 @@ module _ (first : State) (t0 : ℕ) (disk : Told) (s : Inside) (stood : Stood fi
     each_there pair e =
         let held = pair_placed b.shape.block b.places (spots_of ps)
         (subst (λ (ss : List Spot). Every (IsPlace b.shape.block b.places) ss) rebuilt_spots (samples_have (IsPlace b.shape.block b.places) b.ropes id placing.placed.placed)) pair e in
-        placing.places.each (address_of b.places pair) ∙ placed_there b.places placing.more pair placing.placed.differ held
+        there_held s.parts.blocks.holders b.places pair placing.addresses held
 
     pub have_places : HavePlaces s.journal.shape.block s.parts.blocks.holders (spots_of ps)
     have_places = λ pair e. (address_of b.places pair, each_there pair (ap (λ (x : Shape). has_pair (pairs_at x.block (spots_of ps)) pair) shape_is ∙ e))
@@ -189,7 +173,7 @@ module _ (first : State) (t0 : ℕ) (disk : Told) (s : Inside) (stood : Stood fi
     unrefused sound = by sound
       where
         known : first_unknown last.ropes (id ∷ []) ≡ None
-        known = sym (missing_shown [] s.parts last (stood_shows first t0 disk s stood) (id ∷ [])) ∙ a_rope s.parts.ropes.ropes id [] ps live
+        known = sym (missing_shown stood.held s.parts last (stood_shows first t0 disk s stood) (id ∷ [])) ∙ a_rope s.parts.ropes.ropes id [] ps live
 
         by : (sound : Sound) → refusal last (tapes_of s) (call_for sound id) ≡ None
         by sounds.Talk = ap (λ o. first_of (if_unknown o ∷ [])) known
@@ -234,7 +218,7 @@ module _ (first : State) (t0 : ℕ) (disk : Told) (s : Inside) (stood : Stood fi
   unknown sound id gone = by sound
     where
       missing : first_unknown last.ropes (id ∷ []) ≡ Some id
-      missing = sym (missing_shown [] s.parts last (stood_shows first t0 disk s stood) (id ∷ [])) ∙ no_rope s.parts.ropes.ropes id [] gone
+      missing = sym (missing_shown stood.held s.parts last (stood_shows first t0 disk s stood) (id ∷ [])) ∙ no_rope s.parts.ropes.ropes id [] gone
 
       by : (sound : Sound) → refusal last (tapes_of s) (call_for sound id) ≡ Some (why.UnknownRope id)
       by sounds.Talk = ap (λ o. first_of (if_unknown o ∷ [])) missing
@@ -303,22 +287,20 @@ reads_of : (s : State) (sound : Sound) (id : ℕ) → stretches_of s id ≡ most
 reads_of s sounds.Talk id = refl
 reads_of s sounds.Peaks id = refl
 
-calls_of : (s : State) (sound : Sound) (id : ℕ) → stretches_of s id ≡ most_calls s (call_for sound id)
-calls_of s sounds.Talk id = refl
-calls_of s sounds.Peaks id = refl
+changes_none : (sound : Sound) (id : ℕ) → is_changing (call_for sound id) ≡ false
+changes_none sounds.Talk id = refl
+changes_none sounds.Peaks id = refl
 
 module _ (old new : Told) (s t : State) (call : Call) (sound : Sound) (id : ℕ) (asks : call ≡ call_for sound id) (same : t ≡ s) (looked : Looked (stretches_of t id) old new) where
   pub looked_reads : Looked (most_reads s call) old new
   looked_reads = subst (λ n. Looked n old new) (ap (λ (x : State). stretches_of x id) same ∙ reads_of s sound id ∙ ap (most_reads s) (sym asks)) looked
 
-  pub goes_calls : Goes (most_calls s call) old new
-  goes_calls =
-      let it = subst (λ n. Looked n old new) (ap (λ (x : State). stretches_of x id) same ∙ calls_of s sound id ∙ ap (most_calls s) (sym asks)) looked in
-      record { size = it.size; honest = it.honest; later = it.later; calls = it.calls; faults = it.faults }
+  pub heard_within : (tapes : List (List ℕ)) → new.calls ≤ old.calls + most_calls s tapes call
+  heard_within tapes =
+      let few = looked_reads.calls in
+      let most = most_other s tapes call (ap is_changing asks ∙ changes_none sound id) in
+      omega (arith, few, most)
 
-  goes_reads : Goes (2 + most_reads s call) old new
-  goes_reads = record { size = looked_reads.size; honest = looked_reads.honest; later = looked_reads.later; calls = (let most = looked_reads.calls in omega (arith, most)); faults = looked_reads.faults }
-
-  pub few_on_error : {A E : Type 0} (r : Result A E) → OnErr r (Goes (2 + most_reads s call) old new)
+  pub few_on_error : {A E : Type 0} (r : Result A E) → OnErr r (new.calls ≤ old.calls + (landing_calls s + most_reads s call))
   few_on_error (Ok x) = tt
-  few_on_error (Err e) = goes_reads
+  few_on_error (Err e) = let few = looked_reads.calls in omega (arith, few)

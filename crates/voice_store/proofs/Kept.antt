@@ -1,5 +1,5 @@
 -- An edit that is kept.
-use Rattle.std.proofs.Common.{◌≡◌, ◌⊎◌, inl, inr, ℕ, ◌+◌, ◌*◌, ◌≤◌, ◌^◌, ◌==◌, true, false, cond, List, [], ◌∷◌, length, Some, None, IsTrue, is_some, refl, sym, ◌∙◌, ap, subst, arith}
+use Rattle.std.proofs.Common.{◌≡◌, ◌⊎◌, inl, inr, ℕ, ◌+◌, ◌*◌, ◌≤◌, ◌^◌, ◌==◌, true, false, cond, nat_lt, List, [], ◌∷◌, length, Some, None, IsTrue, is_some, refl, sym, ◌∙◌, ap, subst, arith}
 use Rattle.std.specs.List.{list_all}
 use Rattle.std.proofs.lemmas.List.{length-map}
 use Rattle.std.proofs.lemmas.Bool.{ltb-true}
@@ -26,10 +26,12 @@ use Rattle.voice_model.specs.Spelling.{spelling}
 use Rattle.voice_model.proofs.ChangesOfEffects.{size_again}
 use Rattle.voice_model.proofs.FitsOfCalls.{fit_call}
 use Rattle.voice_model.proofs.LegalInReplay.{acted_again}
-use Rattle.rope_table.specs.Table.{uses_at}
+use Rattle.rope_table.specs.Table.{uses_in, pieces_in as pieces_here}
+use Rattle.voice_model.proofs.PlacesKept.{all_samples}
+use Rattle.recovery.proofs.Ropes.{uses_shown}
 use Rattle.recovery.specs.declared.parts.Parts.{Parts}
-use Rattle.recovery.specs.Shown.{Rebuilds, Shows}
-use Rattle.recovery.proofs.Showing.{used_shown}
+use Rattle.recovery.specs.Shown.{Shows}
+use Rattle.running_tables.specs.Running.{Runs}
 use Rattle.edits.specs.Shown.{IsRopeOf}
 use Rattle.edits.proofs.Refusals.{journal_last}
 use Rattle.edits.proofs.UsedBlocks.{of_live_ropes}
@@ -40,10 +42,9 @@ use Rattle.fillings.proofs.Counting.{or_cases}
 use Rattle.crash_laws.specs.Foundations.{Foundations}
 use Rattle.crash_laws.specs.Standing.{IsHonest, IsHeld}
 use Rattle.crash_laws.proofs.Opened.{standing_gives}
-use Rattle.next_ropes.specs.Ready.{IsReady}
+use Rattle.next_ropes.specs.Ready.{IsReady, AreLive, most_held}
 use Rattle.next_changes.specs.declared.NextChange.TheVariants as changes
 use Rattle.next_ropes.specs.declared.NextRope.{NextRope}
-use Rattle.next_ropes.proofs.Readied.{AreUsed}
 use Rattle.voice_store.specs.declared.inside.Inside.{Inside}
 use Rattle.voice_store.specs.declared.ways.Way.{Way}
 use Rattle.voice_store.specs.declared.ways.Way.TheVariants as ways
@@ -52,6 +53,7 @@ use Rattle.voice_store.specs.Ways.{IsWay}
 use Rattle.voice_store.specs.Trying.{Trying}
 use Rattle.voice_store.specs.Keeping.{MakesRope, HasWay}
 use Rattle.voice_store.proofs.Refused.{wrong, kept_again}
+use Rattle.voice_store.proofs.Holding.{few_held}
 use Rattle.voice_store.proofs.Making.{IsMaking, edit_makes, edit_reply, may_commit}
 use Rattle.voice_store.proofs.Again.{filled_again, timely_edit}
 
@@ -60,11 +62,15 @@ use Rattle.voice_store.proofs.Again.{filled_again, timely_edit}
 some_none : {A : Type 0} (x : A) → Some x ≡ None → ⊥
 some_none x e = wrong (sym (ap is_some e))
 
+-- few passages are held
+pub stood_few : (first : State) (t0 : ℕ) (disk : Told) (s : Inside) (stood : Stood first t0 disk s) → length stood.held ≤ most_held
+stood_few first t0 disk s stood = few_held stood.held stood.takings s.journal.shape.block (last_of first s) stood.holding stood.upright.valid
+
 module _ (first : State) (t0 : ℕ) (disk : Told) (s : Inside) (stood : Stood first t0 disk s) (none : s.doubt ≡ None) where
-  pub is_sure : IsSure s stood.b stood.after (last_of first s)
+  pub is_sure : IsSure stood.held stood.takings s stood.b stood.after (last_of first s)
   is_sure = by stood.tables
     where
-      by : IsSure s stood.b stood.after (last_of first s) ⊎ IsUnsure s stood.b stood.after (last_of first s) → IsSure s stood.b stood.after (last_of first s)
+      by : IsSure stood.held stood.takings s stood.b stood.after (last_of first s) ⊎ IsUnsure stood.held stood.takings s stood.b stood.after (last_of first s) → IsSure stood.held stood.takings s stood.b stood.after (last_of first s)
       by (inl sure) = sure
       by (inr unsure) = absurd (some_none unsure.doubted (sym unsure.unsure ∙ none))
 
@@ -73,7 +79,6 @@ module _ (first : State) (t0 : ℕ) (disk : Told) (s : Inside) (stood : Stood fi
   upright_by parts = let up = stood.upright in record {
     legal = up.legal;
     valid = up.valid;
-    quiet = up.quiet;
     fills = up.fills;
     seated = up.seated;
     acks = up.acks;
@@ -81,11 +86,14 @@ module _ (first : State) (t0 : ℕ) (disk : Told) (s : Inside) (stood : Stood fi
   }
 
   -- other tables that show the same
-  pub same_parts : (parts : Parts) → Rebuilds parts stood.b → Stood first t0 disk (record s { parts = parts })
+  pub same_parts : (parts : Parts) → Runs stood.held [] stood.takings parts stood.b → Stood first t0 disk (record s { parts = parts })
   same_parts parts shows = record {
     fill = stood.fill;
     b = stood.b;
     after = stood.b;
+    held = stood.held;
+    takings = stood.takings;
+    holding = stood.holding;
     upright = upright_by parts;
     tables = inl (record { sure = none; in_journal = is_sure.in_journal; in_state = is_sure.in_state; tables = shows; same = refl });
     size = stood.size;
@@ -104,7 +112,7 @@ module _ (first : State) (t0 : ℕ) (disk : Told) (s : Inside) (stood : Stood fi
   pub base_now : (size : ℕ) → ((held : List (List Piece)) (d : Durable Spot) (fill : Spot → Tagged) → Shows held s.parts d → ((x : Spot) → spot_of (fill x) ≡ x) → size ≡ base_size s.parts.form (durable_by fill d))
       → size ≡ base_size (last_of first s).form (last_of first s).kept
   base_now size told =
-      told [] stood.b.kept stood.fill is_sure.tables.kept stood.upright.fills.spots
+      told stood.held stood.b.kept stood.fill is_sure.tables.kept stood.upright.fills.spots
       ∙ ap (λ f. base_size f (durable_by stood.fill stood.b.kept)) same_form ∙ ap (base_size (last_of first s).form) stood.upright.fills.kept
 
 -- ---- an edit, before the journal is asked
@@ -158,7 +166,7 @@ module _ (first : State) (t0 : ℕ) (disk : Told) (s : Inside) (call : Call) (pi
   abbrev b : Rebuilt
   b = h.makes.stood.b
 
-  abbrev sure : IsSure s b h.makes.stood.after now
+  abbrev sure : IsSure h.makes.stood.held h.makes.stood.takings s b h.makes.stood.after now
   sure = is_sure first t0 disk s h.makes.stood h.makes.sure
 
   making : IsMaking now (tapes_of s) call
@@ -170,7 +178,7 @@ module _ (first : State) (t0 : ℕ) (disk : Told) (s : Inside) (call : Call) (pi
   fit : IsNextRope now.kept now.next rope.samples
   fit = subst (MayFit now.form now.kept) rope.effect (fit_call now (tapes_of s) call h.makes.stood.upright.valid making.range unrefused)
 
-  pub tables : Rebuilds s.parts b
+  pub tables : Runs h.makes.stood.held [] h.makes.stood.takings s.parts b
   tables = sure.tables
 
   pub number : s.parts.next ≤ 2 ^ 48
@@ -187,11 +195,16 @@ module _ (first : State) (t0 : ℕ) (disk : Told) (s : Inside) (call : Call) (pi
       let kept = ap (durable_by spot_of) (sym h.makes.stood.upright.fills.kept) ∙ kept_again h.makes.stood.fill h.makes.stood.upright.fills.spots b.kept in
       subst (λ (d : Durable Spot). list_all (has_pair (used_pairs d)) (pairs_at d.shape.block (spots_of pieces)) ≡ true) kept (of_live_ropes.blocks now (tapes_of s) call pieces rope)
 
-  pub used : AreUsed s.parts pieces
+  pub used : AreLive s.parts pieces
   used = λ pair e.
       let has = each_had (used_pairs b.kept) (pairs_at b.shape.block (spots_of pieces)) live_blocks pair (ap (λ n. has_pair (pairs_at n (spots_of pieces)) pair) (sym tables.kept.block) ∙ e) in
-      let some = ltb-true 0 (uses_at s.parts.ropes pair) (used_shown b.kept s.parts.ropes s.parts.interests.rows s.parts.moment s.parts.next tables.kept pair ∙ has) in
+      let some = ltb-true 0 (uses_in s.parts.ropes.block (pieces_here s.parts.ropes.ropes) pair)
+      (ap (λ l. nat_lt 0 (uses_in s.parts.ropes.block (pieces_here l) pair)) tables.kept.ropes ∙ uses_shown b.shape.graces b.kept.rows s.parts.ropes.block b.ropes pair ∙ ap (λ n. has_pair (pairs_at n (all_samples b.ropes)) pair) tables.kept.block ∙ has) in
       omega (arith, some)
+
+  -- few passages are held
+  pub held_few : length h.makes.stood.held ≤ most_held
+  held_few = stood_few first t0 disk s h.makes.stood
 
   pub the_change : kinds.Edited b.next pieces ≡ change_of b.form [] made
   the_change = ap (λ n. kinds.Edited n pieces) (same_number first t0 disk s h.makes.stood h.makes.sure) ∙ ap (kinds.Edited now.next) rope.same
@@ -213,7 +226,7 @@ module _ (first : State) (t0 : ℕ) (disk : Told) (s : Inside) (call : Call) (pi
       edit_reply now (tapes_of s) call h.makes.edits ∙ ap (λ o. replies.Rope now.next (samples_made o now)) rope.effect ∙ ap (replies.Rope now.next) len
       ∙ ap (λ n. replies.Rope n (samples_in next.pieces)) (sym (id ∙ same_number first t0 disk s h.makes.stood h.makes.sure))
 
-  pub trying : Foundations → (IsTrue disk.honest → IsHonest disk) → (caller : ℕ) (parts : Parts) (next : NextRope) → IsReady parts b next (kinds.Edited b.next pieces)
+  pub trying : Foundations → (IsTrue disk.honest → IsHonest disk) → (caller : ℕ) (parts : Parts) (next : NextRope) → IsReady h.makes.stood.held h.makes.stood.takings parts b next (kinds.Edited b.next pieces)
       → (reply : Reply) → reply ≡ replies.Rope next.id (samples_in next.pieces)
       → Trying first t0 disk (record s { parts = parts }) b (changes.Rope next) (kinds.Edited b.next pieces) made caller call reply
   trying laws honest caller parts next ready reply is =
@@ -223,6 +236,9 @@ module _ (first : State) (t0 : ℕ) (disk : Told) (s : Inside) (call : Call) (pi
         upright = up;
         sure = h.makes.sure;
         in_journal = sure.in_journal;
+        held = h.makes.stood.held;
+        takings = h.makes.stood.takings;
+        holding = h.makes.stood.holding;
         ready = ready;
         addresses = [];
         change = the_change;

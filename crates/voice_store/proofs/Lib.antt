@@ -2,6 +2,8 @@ pub mod Again
 pub mod Altered
 pub mod Appended
 pub mod Bases
+pub mod Behind
+pub mod Counted
 pub mod Entries
 pub mod Faults
 pub mod Fewer
@@ -11,14 +13,13 @@ pub mod Histories
 pub mod Kept
 pub mod Landed
 pub mod Making
-pub mod Ordered
 pub mod Pushed
 pub mod Recordable
 pub mod Recorded
 pub mod Refusals
 pub mod Refused
 pub mod Results
-pub mod Rooms
+pub mod Holding
 pub mod Sending
 pub mod Settled
 pub mod Spare

@@ -1,5 +1,6 @@
 -- A store with one entry more, and one whose disk went on.
 use Rattle.std.proofs.Common.{◌≡◌, ◌⊎◌, ℕ, ◌≤◌, Bool, List, [], ◌∷◌, ◌++◌, IsTrue, sym, ◌∙◌, ap, subst, arith}
+use Rattle.voice_units.specs.declared.pieces.Piece.{Piece}
 use Rattle.voice_outside.specs.Disk.{Told}
 use Rattle.voice_units.specs.Spots.{Spot}
 use Rattle.voice_journal.specs.Readings.{extent}
@@ -12,7 +13,7 @@ use Rattle.voice_model.specs.Valid.{IsState}
 use Rattle.voice_model.specs.declared.calls.Entry.{Entry}
 use Rattle.crash_laws.specs.Standing.{IsHeld}
 use Rattle.voice_store.specs.declared.inside.Inside.{Inside}
-use Rattle.voice_store.specs.Stood.{tapes_of, last_of, Fills, IsSeated, AcksRise, AreQuiet, Upright, IsSure, IsUnsure, Stood}
+use Rattle.voice_store.specs.Stood.{tapes_of, last_of, Fills, IsSeated, AcksRise, IsHolding, Upright, IsSure, IsUnsure, Stood}
 use Rattle.voice_store.proofs.Entries.{after_one, legal_one, acks_one, acks_later}
 
 -- a history that is legal on a disk is on one as honest
@@ -38,25 +39,27 @@ module _ (first : State) (t0 : ℕ) (old new : Told) (s s' : Inside) (e : Entry)
   here : (P : List (List ℕ) → List Entry → Type 0) → P (tapes_of s) (s.history.items ++ e ∷ []) → P (tapes_of s') s'.history.items
   here P p = subst (λ (ts : List (List ℕ)). P ts s'.history.items) (sym same_tapes) (subst (λ (l : List Entry). P (tapes_of s) l) (sym items) p)
 
-  pub stood_pushed : (fill fill' : Spot → Tagged) (b b' after' after'' : Rebuilt) → Upright first t0 old s fill b after' → old.calls ≤ new.calls → new.honest ≡ old.honest → e.ack ≡ new.calls
-      → IsAnswerOn new.honest last (tapes_of s) e → IsState next → AreQuiet next.lanes → Fills fill' b' next → IsSeated s'.journal next
+  pub stood_pushed : (fill fill' : Spot → Tagged) (b b' after' after'' : Rebuilt) (held : List (List Piece)) (takings : List ℕ) → Upright first t0 old s fill b after' → old.calls ≤ new.calls → new.honest ≡ old.honest → e.ack ≡ new.calls
+      → IsAnswerOn new.honest last (tapes_of s) e → IsState next → IsHolding held takings s'.journal.shape.block next.lanes → Fills fill' b' next → IsSeated s'.journal next
       → (IsTrue new.honest → IsHeld first (tapes_of s) t0 s'.journal new b' after'' (s.history.items ++ e ∷ []))
-      → IsSure s' b' after'' next ⊎ IsUnsure s' b' after'' next → extent s'.journal.shape ≤ new.size
+      → IsSure held takings s' b' after'' next ⊎ IsUnsure held takings s' b' after'' next → extent s'.journal.shape ≤ new.size
       → Stood first t0 new s'
-  stood_pushed fill fill' b b' after' after'' up later alike now answers valid quiet fills seated held tables size = record {
+  stood_pushed fill fill' b b' after' after'' held takings up later alike now answers valid holding fills seated stands tables size = record {
     fill = fill';
     b = b';
     after = after'';
+    held = held;
+    takings = takings;
+    holding = subst (λ (t : State). IsHolding held takings s'.journal.shape.block t.lanes) (sym last_next) holding;
     upright = record {
       legal = here (λ ts l. LegalOn new.honest first ts l) (legal_one new.honest first (tapes_of s) s.history.items e (as_honest first old new s alike up.legal) answers);
       valid = subst (λ (t : State). IsState t) (sym last_next) valid;
-      quiet = subst (λ (t : State). AreQuiet t.lanes) (sym last_next) quiet;
       fills = subst (λ (t : State). Fills fill' b' t) (sym last_next) fills;
       seated = subst (λ (t : State). IsSeated s'.journal t) (sym last_next) seated;
       acks = here (λ ts l. AcksRise t0 l new.calls) (acks_one t0 s.history.items e new.calls (acks_later t0 s.history.items old.calls new.calls up.acks later) now);
-      held = λ honest. here (λ ts l. IsHeld first ts t0 s'.journal new b' after'' l) (held honest);
+      held = λ honest. here (λ ts l. IsHeld first ts t0 s'.journal new b' after'' l) (stands honest);
     };
-    tables = subst (λ (t : State). IsSure s' b' after'' t ⊎ IsUnsure s' b' after'' t) (sym last_next) tables;
+    tables = subst (λ (t : State). IsSure held takings s' b' after'' t ⊎ IsUnsure held takings s' b' after'' t) (sym last_next) tables;
     size = size;
   }
 
@@ -67,10 +70,12 @@ stood_went_on first t0 old new s stood later size alike held = record {
   fill = stood.fill;
   b = stood.b;
   after = stood.after;
+  held = stood.held;
+  takings = stood.takings;
+  holding = stood.holding;
   upright = record {
     legal = as_honest first old new s alike stood.upright.legal;
     valid = stood.upright.valid;
-    quiet = stood.upright.quiet;
     fills = stood.upright.fills;
     seated = stood.upright.seated;
     acks = acks_later t0 s.history.items old.calls new.calls stood.upright.acks later;

@@ -14,7 +14,7 @@ use Rattle.voice_store.specs.declared.inside.Inside.{Inside}
 use Rattle.voice_store.specs.Keeping.{refused_by}
 use Rattle.voice_store.specs.Stood.{Stood, last_of, tapes_of}
 use Rattle.voice_store.proofs.Kept.{is_sure, same_number}
-use Rattle.voice_store.proofs.Rooms.{free_open}
+use Rattle.voice_store.proofs.Spare.{free_is_open}
 
 pub taken_many : (tapes : List (List ℕ)) (take : Take) → HasTake tapes take → length (taken tapes take) ≡ take.len
 taken_many tapes take has =
@@ -27,9 +27,7 @@ module _ (first : State) (t0 : ℕ) (disk : Told) (s : Inside) (take : Take) (st
   last = last_of first s
 
   free_is : free last ≡ open_in s.parts.blocks.holders
-  free_is =
-      let sure = is_sure first t0 disk s stood none in
-      free_open stood.fill stood.upright.fills.spots stood.b last s.parts.blocks.holders (length last.lanes) sure.tables.placed sure.tables.used stood.upright.quiet sure.in_state stood.upright.fills.kept sure.tables.places
+  free_is = free_is_open first t0 disk s stood
 
   next_is : last.next ≡ s.parts.next
   next_is = sym ((is_sure first t0 disk s stood none).tables.kept.next ∙ same_number first t0 disk s stood none)

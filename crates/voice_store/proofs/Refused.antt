@@ -1,5 +1,6 @@
 -- Calls that leave the state as it was.
 use Rattle.std.proofs.Common.{◌≡◌, ◌⊎◌, inl, inr, ℕ, List, [], ◌∷◌, map, Bool, true, false, Option, Some, None, IsTrue, refl, sym, ◌∙◌, ap, subst}
+use Rattle.voice_units.specs.declared.pieces.Piece.{Piece}
 use Rattle.voice_units.specs.Spots.{Spot}
 use Rattle.voice_model.specs.Samples.{Tagged, spot_of}
 use Rattle.voice_model.specs.State.{State, Live, Durable, row_at}
@@ -157,13 +158,13 @@ ropes_again fill same (r ∷ rs) =
 pub kept_again : (fill : Spot → Tagged) → ((x : Spot) → spot_of (fill x) ≡ x) → (d : Durable Spot) → durable_by spot_of (durable_by fill d) ≡ d
 kept_again fill same d = ap (λ (l : List (Live Spot)). record d { ropes = l }) (ropes_again fill same d.ropes)
 
-pub shows_state : (fill : Spot → Tagged) (b : Rebuilt) (s : State) (parts : Parts) → Fills fill b s → Shows [] parts b.kept → ShowsState [] parts s
-shows_state fill b s parts fills shows = subst (λ d. Shows [] parts d) (sym (kept_again fill fills.spots b.kept) ∙ ap (durable_by spot_of) fills.kept) shows
+pub shows_state : (held : List (List Piece)) (fill : Spot → Tagged) (b : Rebuilt) (s : State) (parts : Parts) → Fills fill b s → Shows held parts b.kept → ShowsState held parts s
+shows_state held fill b s parts fills shows = subst (λ d. Shows held parts d) (sym (kept_again fill fills.spots b.kept) ∙ ap (durable_by spot_of) fills.kept) shows
 
 module _ (first : State) (t0 : ℕ) (disk : Told) (s : Inside) (stood : Stood first t0 disk s) where
-  shown : IsSure s stood.b stood.after (last_of first s) ⊎ IsUnsure s stood.b stood.after (last_of first s) → Shows [] s.parts stood.b.kept
+  shown : IsSure stood.held stood.takings s stood.b stood.after (last_of first s) ⊎ IsUnsure stood.held stood.takings s stood.b stood.after (last_of first s) → Shows stood.held s.parts stood.b.kept
   shown (inl sure) = sure.tables.kept
-  shown (inr unsure) = (given s.parts stood.b unsure.doubted.next unsure.change unsure.ready).shows
+  shown (inr unsure) = (given stood.held stood.takings s.parts stood.b unsure.doubted.next unsure.change unsure.ready).runs.kept
 
-  pub stood_shows : ShowsState [] s.parts (last_of first s)
-  stood_shows = shows_state stood.fill stood.b (last_of first s) s.parts stood.upright.fills (shown stood.tables)
+  pub stood_shows : ShowsState stood.held s.parts (last_of first s)
+  stood_shows = shows_state stood.held stood.fill stood.b (last_of first s) s.parts stood.upright.fills (shown stood.tables)

@@ -1,6 +1,7 @@
 -- What was in doubt has landed.
 use Rattle.std.proofs.Common.{rules, ◌≡◌, ◌⊎◌, inl, inr, ℕ, ◌≤◌, List, [], ◌∷◌, ◌++◌, Bool, true, false, Option, Some, None, is_some, IsTrue, refl, sym, ◌∙◌, ap, subst, arith}
 use Rattle.std.specs.Prelude.{is_none}
+use Rattle.voice_units.specs.declared.pieces.Piece.{Piece}
 use Rattle.voice_outside.specs.Disk.{Told}
 use Rattle.voice_units.specs.declared.shapes.Shape.{Shape}
 use Rattle.voice_journal.specs.Places.{JournalValue, closed_after, landed as landed_seat}
@@ -11,7 +12,7 @@ use Rattle.voice_model.specs.State.{State, Durable, LaneState, Pending}
 use Rattle.voice_model.specs.Step.{landed, after_landing, state_after}
 use Rattle.voice_model.specs.Replay.{Rebuilt, acted}
 use Rattle.voice_model.proofs.Heard.{answer_on}
-use Rattle.recovery.specs.Shown.{Rebuilds}
+use Rattle.running_tables.specs.Running.{Runs}
 use Rattle.recovery.specs.declared.parts.Parts.{Parts}
 use Rattle.next_changes.specs.Next.{IsNext}
 use Rattle.next_changes.specs.declared.NextChange.{NextChange}
@@ -41,17 +42,17 @@ true_false : true ≡ false → ⊥
 true_false e = cc
 
 -- only where a change is in doubt is one ready
-pub unsure_of : (s : Inside) (b after' : Rebuilt) (last : State) (doubted : Doubted) → s.doubt ≡ Some doubted → IsSure s b after' last ⊎ IsUnsure s b after' last → IsUnsure s b after' last
-unsure_of s b after' last doubted is (inl sure) = absurd (none_some doubted (sym sure.sure ∙ is))
-unsure_of s b after' last doubted is (inr unsure) = unsure
+pub unsure_of : (held : List (List Piece)) (takings : List ℕ) (s : Inside) (b after' : Rebuilt) (last : State) (doubted : Doubted) → s.doubt ≡ Some doubted → IsSure held takings s b after' last ⊎ IsUnsure held takings s b after' last → IsUnsure held takings s b after' last
+unsure_of held takings s b after' last doubted is (inl sure) = absurd (none_some doubted (sym sure.sure ∙ is))
+unsure_of held takings s b after' last doubted is (inr unsure) = unsure
 
-pub sure_of : (s : Inside) (b after' : Rebuilt) (last : State) → s.doubt ≡ None → IsSure s b after' last ⊎ IsUnsure s b after' last → IsSure s b after' last
-sure_of s b after' last is (inl sure) = sure
-sure_of s b after' last is (inr unsure) = absurd (none_some unsure.doubted (sym is ∙ unsure.unsure))
+pub sure_of : (held : List (List Piece)) (takings : List ℕ) (s : Inside) (b after' : Rebuilt) (last : State) → s.doubt ≡ None → IsSure held takings s b after' last ⊎ IsUnsure held takings s b after' last → IsSure held takings s b after' last
+sure_of held takings s b after' last is (inl sure) = sure
+sure_of held takings s b after' last is (inr unsure) = absurd (none_some unsure.doubted (sym is ∙ unsure.unsure))
 
-pub unsure_by : (s : Inside) (b after' : Rebuilt) (last : State) → is_none s.doubt ≡ false → IsSure s b after' last ⊎ IsUnsure s b after' last → IsUnsure s b after' last
-unsure_by s b after' last is (inl sure) = absurd (true_false (sym (ap (λ (o : Option Doubted). is_none o) sure.sure) ∙ is))
-unsure_by s b after' last is (inr unsure) = unsure
+pub unsure_by : (held : List (List Piece)) (takings : List ℕ) (s : Inside) (b after' : Rebuilt) (last : State) → is_none s.doubt ≡ false → IsSure held takings s b after' last ⊎ IsUnsure held takings s b after' last → IsUnsure held takings s b after' last
+unsure_by held takings s b after' last is (inl sure) = absurd (true_false (sym (ap (λ (o : Option Doubted). is_none o) sure.sure) ∙ is))
+unsure_by held takings s b after' last is (inr unsure) = unsure
 
 pub same_doubted : (s : Inside) (x y : Doubted) → s.doubt ≡ Some x → s.doubt ≡ Some y → x ≡ y
 same_doubted s x y p q = let both : Some x ≡ Some y = sym p ∙ q in cc
@@ -63,7 +64,7 @@ is_true = search rules
 abbrev pub landed_journal : JournalValue → Doubt → JournalValue
 landed_journal journal doubt = record journal { seat = landed_seat journal.seat doubt; doubt = None; is_closed = closed_after journal.is_closed doubt }
 
-module _ (first : State) (t0 : ℕ) (old new : Told) (s s' : Inside) (was : Stood first t0 old s) (unsure : IsUnsure s was.b was.after (last_of first s))
+module _ (first : State) (t0 : ℕ) (old new : Told) (s s' : Inside) (was : Stood first t0 old s) (unsure : IsUnsure was.held was.takings s was.b was.after (last_of first s))
     (later : old.calls ≤ new.calls) (sizes : new.size ≡ old.size) (alike : new.honest ≡ old.honest) (moments : IsTrue old.honest → IsLater old new) (carry : LandingsCarry old new) where
   abbrev last : State
   last = last_of first s
@@ -72,22 +73,23 @@ module _ (first : State) (t0 : ℕ) (old new : Told) (s s' : Inside) (was : Stoo
   honest h = subst (λ (b : Bool). IsTrue b) alike h
 
   pub stood_landed : s'.tapes ≡ s.tapes → s'.history.items ≡ s.history.items ++ landing_at new.calls ∷ [] → s'.journal ≡ landed_journal s.journal unsure.doubt
-      → s'.doubt ≡ None → s'.parts.form ≡ unsure.doubted.form → Rebuilds (in_form was.b.form s'.parts) (acted was.b unsure.change)
+      → s'.doubt ≡ None → s'.parts.form ≡ unsure.doubted.form → Runs was.held [] was.takings (in_form was.b.form s'.parts) (acted was.b unsure.change)
       → (IsTrue old.honest → Lands s.journal s'.journal old new × LandsWithin s.journal old new)
       → Stood first t0 new s'
   stood_landed tapes items journal doubt form tables does =
       let lands = unsure.lands in
       let e = landing_at new.calls in
       let next_is : state_after last (tapes_of s) e ≡ landed last = refl in
-      let shown : Rebuilds (in_form unsure.doubted.form s'.parts) was.after = lands.tables (in_form was.b.form s'.parts) tables in
-      let shows : Rebuilds s'.parts was.after = subst (λ (f : ℕ). Rebuilds (in_form f s'.parts) was.after) (sym form) shown in
+      let shown : Runs was.held [] was.takings (in_form unsure.doubted.form s'.parts) was.after = lands.tables (in_form was.b.form s'.parts) tables in
+      let shows : Runs was.held [] was.takings s'.parts was.after = subst (λ (f : ℕ). Runs was.held [] was.takings (in_form f s'.parts) was.after) (sym form) shown in
       let none : (landed last).doubt ≡ None = landed_doubt last last.doubt in
       let seated : IsSeated s'.journal (landed last) =
       subst (λ (j : JournalValue). IsSeated j (landed last)) (sym journal) (record { shape = lands.seated.shape; left = lands.seated.left; epoch = lands.seated.epoch }) in
-      stood_pushed first t0 old new s s' e tapes items was.fill lands.fill was.b was.after was.after was.after was.upright later alike refl
+      stood_pushed first t0 old new s s' e tapes items was.fill lands.fill was.b was.after was.after was.after was.held was.takings was.upright later alike refl
       (answer_on new.honest last (tapes_of s) e (refl, refl, subst (λ (o : Option Pending). IsTrue (is_some o)) (sym unsure.in_state) is_true))
       lands.valid
-      (subst (λ (l : List LaneState). stood.AreQuiet l) (sym (landed_lanes last last.doubt)) was.upright.quiet)
+      (subst (λ (l : List LaneState). stood.IsHolding was.held was.takings s'.journal.shape.block l) (sym (landed_lanes last last.doubt))
+      (subst (λ (j : JournalValue). stood.IsHolding was.held was.takings j.shape.block last.lanes) (sym journal) was.holding))
       lands.fills seated
       (λ h. let d = does (honest h) in carry.ok first (tapes_of s) t0 s.journal s'.journal was.b was.after s.history.items unsure.pending (moments (honest h)) (was.upright.held (honest h)) unsure.in_state d.0 d.1)
       (inl (record { sure = doubt; in_journal = ap (λ (j : JournalValue). j.doubt) journal; in_state = none; tables = shows; same = refl }))
@@ -108,14 +110,16 @@ module _ (first : State) (t0 : ℕ) (old new : Told) (s s' : Inside) (was : Stoo
 pub shape_of : (first : State) (t0 : ℕ) (disk : Told) (s : Inside) (was : Stood first t0 disk s) → was.b.shape ≡ s.journal.shape
 shape_of first t0 disk s was = ap (λ (d : Durable Tagged). d.shape) was.upright.fills.kept ∙ was.upright.seated.shape
 
-pub ready_in : (first : State) (t0 : ℕ) (disk : Told) (s : Inside) (was : Stood first t0 disk s) (unsure : IsUnsure s was.b was.after (last_of first s)) (doubted : Doubted) (s' : Inside)
+pub ready_in : (first : State) (t0 : ℕ) (disk : Told) (s : Inside) (was : Stood first t0 disk s) (unsure : IsUnsure was.held was.takings s was.b was.after (last_of first s)) (doubted : Doubted) (s' : Inside)
     → unsure.doubted ≡ doubted → s'.parts ≡ s.parts → s'.journal.shape ≡ s.journal.shape → IsReadyIn s' doubted.next
 ready_in first t0 disk s was unsure doubted s' same parts shape = record {
+  held = was.held;
+  takings = was.takings;
   b = was.b;
   c = unsure.change;
-  ready = subst (λ (p : Parts). IsNext p was.b doubted.next unsure.change) (sym parts) (subst (λ (d : Doubted). IsNext s.parts was.b d.next unsure.change) same unsure.ready);
+  ready = subst (λ (p : Parts). IsNext was.held was.takings p was.b doubted.next unsure.change) (sym parts) (subst (λ (d : Doubted). IsNext was.held was.takings s.parts was.b d.next unsure.change) same unsure.ready);
   in_shape = shape_of first t0 disk s was ∙ sym shape;
 }
 
 pub ready_again : (s s' : Inside) (next : NextChange) → s'.parts ≡ s.parts → s'.journal.shape ≡ s.journal.shape → IsReadyIn s next → IsReadyIn s' next
-ready_again s s' next parts shape ready = record { b = ready.b; c = ready.c; ready = subst (λ (p : Parts). IsNext p ready.b next ready.c) (sym parts) ready.ready; in_shape = ready.in_shape ∙ sym shape }
+ready_again s s' next parts shape ready = record { held = ready.held; takings = ready.takings; b = ready.b; c = ready.c; ready = subst (λ (p : Parts). IsNext ready.held ready.takings p ready.b next ready.c) (sym parts) ready.ready; in_shape = ready.in_shape ∙ sym shape }

@@ -1,6 +1,7 @@
 -- A change that was written as a base, by what the journal says of it.
 use Rattle.std.proofs.Common.{◌≡◌, ℕ, ◌+◌, ◌-◌, ◌≤◌, ◌<◌, ◌==◌, List, [], ◌∷◌, ◌++◌, map, Bool, true, false, cond, ◌||◌, Some, None, is_some, IsTrue, refl, sym, ◌∙◌, ap, subst, arith}
 use Rattle.std.specs.Prelude.{nat_le}
+use Rattle.voice_units.specs.declared.pieces.Piece.{Piece}
 use Rattle.voice_outside.specs.Disk.{Told}
 use Rattle.voice_units.specs.declared.shapes.Shape.{Shape}
 use Rattle.voice_journal.specs.Readings.{switched, formatted, framed_size}
@@ -12,11 +13,12 @@ use Rattle.voice_model.specs.Changes.{committed, changed, frame_size, base_size,
 use Rattle.voice_model.specs.Spelling.{spelling}
 use Rattle.voice_model.specs.Step.{state_after}
 use Rattle.voice_units.specs.Spots.{Spot}
-use Rattle.voice_model.specs.Replay.{Rebuilt, acted, durable_by, brings, recovered}
+use Rattle.voice_model.specs.Replay.{used_pairs, Rebuilt, acted, durable_by, brings, recovered}
 use Rattle.voice_model.specs.Base.{base_of}
 use Rattle.voice_model.specs.Base as changes
 use Rattle.voice_model.specs.Places.{IsPlaced, AllUsed}
-use Rattle.voice_model.specs.Valid.{IsRebuilt}
+use Rattle.voice_model.specs.Valid.{Every, IsRebuilt}
+use Rattle.voice_model.proofs.Order.{every_ordered}
 use Rattle.voice_model.specs.declared.calls.Call.{Call}
 use Rattle.voice_model.specs.declared.calls.Reply.{Reply}
 use Rattle.voice_model.specs.declared.changes.Change.{Change}
@@ -27,7 +29,9 @@ use Rattle.journal_readings.proofs.Replays as replays
 use Rattle.next_changes.specs.declared.NextChange.{NextChange}
 use Rattle.next_changes.specs.Laws.{IsGiven}
 use Rattle.next_changes.proofs.Given.{given}
-use Rattle.recovery.specs.Shown.{Shows, Rebuilds, placed_at, plain_sample}
+use Rattle.recovery.specs.Shown.{Shows, plain_sample}
+use Rattle.checkpoint.specs.Blocks.{IsHeld as IsAt}
+use Rattle.running_tables.specs.Running.{Runs, GivesJust}
 use Rattle.recovery.specs.declared.parts.Parts.{Parts}
 use Rattle.crash_laws.specs.Standing.{IsLater, IsHeld}
 use Rattle.crash_laws.specs.Calls.{Does, Doubts, StaysWithin, IsBase, IsCommitted, IsInDoubt}
@@ -40,7 +44,7 @@ use Rattle.voice_store.specs.Stood.{tapes_of, last_of, in_form, Fills, IsSeated,
 use Rattle.voice_store.specs.Ways.{FitsOther}
 use Rattle.voice_store.specs.Trying.{Trying, IsBaseOf}
 use Rattle.voice_store.proofs.Bases.{above_leb}
-use Rattle.voice_store.proofs.Ordered.{held_in_order}
+use Rattle.rope_table.specs.Table.{pairs_in}
 use Rattle.voice_store.proofs.Tried.{next_done, next_waits, stood_done, stood_waits}
 use Rattle.voice_store.proofs.Appended.{committed_by, changed_shape, entry_done, entry_waits}
 
@@ -66,21 +70,21 @@ pub fits_other : (s : State) (effect : Effect Tagged) → s.left < frame_size s.
 fits_other s effect long = ap (λ (b : Bool). committed_by b s effect) (above_leb (frame_size s.form s.kept.shape.block effect) s.left long)
 
 -- what a base reads back as is shown by the same tables, in the form of the base
-pub shown_read_back : (parts : Parts) (x end : Rebuilt) (to : ℕ) → Rebuilds parts x → end.kept ≡ x.kept → end.places ≡ changes.in_order x.places → end.form ≡ to
-    → IsRebuilt plain_sample end → IsPlaced end → AllUsed end → Rebuilds (in_form to parts) end
-shown_read_back parts x end to shows kept places form valid placed used = record {
-  kept = subst (λ (d : Durable Spot). Shows [] (in_form to parts) d) (sym kept) (record {
-    block = shows.kept.block;
-    ropes = shows.kept.ropes;
-    uses = shows.kept.uses;
-    rows = shows.kept.rows;
-    moment = shows.kept.moment;
-    next = shows.kept.next;
+pub shown_read_back : (held : List (List Piece)) (takings : List ℕ) (parts : Parts) (x end : Rebuilt) (to : ℕ) → Runs held [] takings parts x → end.kept ≡ x.kept → end.places ≡ changes.in_order x.places → end.form ≡ to
+    → IsRebuilt plain_sample end → IsPlaced end → AllUsed end → Runs held [] takings (in_form to parts) end
+shown_read_back held takings parts x end to runs kept places form valid placed used = record {
+  kept = subst (λ (d : Durable Spot). Shows held (in_form to parts) d) (sym kept) (record {
+    block = runs.kept.block;
+    ropes = runs.kept.ropes;
+    uses = runs.kept.uses;
+    rows = runs.kept.rows;
+    moment = runs.kept.moment;
+    next = runs.kept.next;
   });
-  places = record {
-    size = shows.places.size ∙ ap (λ (d : Durable Spot). d.shape.blocks) (sym kept);
-    each = λ a. shows.places.each a ∙ sym (held_in_order x.places a shows.placed.differ) ∙ ap (λ l. placed_at l a) (sym places);
-  };
+  size = runs.size ∙ ap (λ (d : Durable Spot). d.shape.blocks) (sym kept);
+  addresses = subst (λ ps. Every (IsAt parts.blocks.holders) ps) (sym places) (every_ordered (IsAt parts.blocks.holders) x.places runs.addresses);
+  given = subst (λ (d : Durable Spot). GivesJust parts.blocks.holders (used_pairs d) (pairs_in d.shape.block (held ++ [])) takings) (sym kept) runs.given;
+  below = subst (λ (d : Durable Spot). Every (λ pair. pair.file < d.next) (pairs_in d.shape.block held)) (sym kept) runs.below;
   in_form = sym form;
   valid = valid;
   placed = placed;
@@ -103,8 +107,8 @@ module _ (first : State) (t0 : ℕ) (old new : Told) (s s' : Inside) (b : Rebuil
   abbrev then : State
   then = committed last last.form effect
 
-  abbrev gives : IsGiven s.parts b next c
-  gives = given s.parts b next c tr.ready
+  abbrev gives : IsGiven tr.held tr.takings s.parts b next c
+  gives = given tr.held tr.takings s.parts b next c tr.ready
 
   abbrev Reached : Type 0
   Reached =
@@ -159,10 +163,10 @@ module _ (first : State) (t0 : ℕ) (old new : Told) (s s' : Inside) (b : Rebuil
       subst (λ (t : State). IsSeated (record s.journal { seat = landed_seat s.journal.seat (Area gate) }) t) (sym is_then)
       (record { shape = changed_shape last.form last.kept effect ∙ was.shape; left = omega (arith, size, area, room); epoch = omega (arith, epoch) })
 
-  tables_then : (parts : Parts) → Rebuilds parts x → Rebuilds (in_form base.form parts) end
+  tables_then : (parts : Parts) → Runs tr.held [] tr.takings parts x → Runs tr.held [] tr.takings (in_form base.form parts) end
   tables_then parts shows =
       let v = replays.valid (switched (formatted x.shape) (map spelling (base_of base.form x))) end (reached).1 in
-      shown_read_back parts x end base.form shows (reached).2 (reached).4 (reached).3 v.0 v.1 v.2
+      shown_read_back tr.held tr.takings parts x end base.form shows (reached).2 (reached).4 (reached).3 v.0 v.1 v.2
 
   spells : IsTrue old.honest → IsBase old.bytes last effect b base.form base.payloads x
   spells h = record {
@@ -186,12 +190,12 @@ module _ (first : State) (t0 : ℕ) (old new : Told) (s s' : Inside) (b : Rebuil
 
   pub switched_stood : s'.tapes ≡ s.tapes → s'.history.items ≡ s.history.items ++ entry_done first t0 old new s s' b next c effect caller call reply tr later sizes alike moments ∷ []
       → s'.journal.shape ≡ s.journal.shape → s'.journal.seat ≡ landed_seat s.journal.seat (Area gate) → s'.journal.doubt ≡ None → s'.doubt ≡ None
-      → (parts : Parts) → Rebuilds parts x → s'.parts ≡ in_form base.form parts
+      → (parts : Parts) → Runs tr.held [] tr.takings parts x → s'.parts ≡ in_form base.form parts
       → SwitchesCarry old new → (IsTrue old.honest → Does (λ r. switched r base.payloads) s.journal s'.journal old new × StaysWithin (λ r. switched r base.payloads) s.journal old new)
       → Stood first t0 new s'
   switched_stood tapes items shape seat sure none parts tables parts_are carry does =
       stood_done first t0 old new s s' b next c effect caller call reply tr later sizes alike end (Area gate) tapes items shape seat sure none
-      (subst (λ (p : Parts). Rebuilds p end) (sym parts_are) (tables_then parts tables)) fills_then seated_then
+      (subst (λ (p : Parts). Runs tr.held [] tr.takings p end) (sym parts_are) (tables_then parts tables)) fills_then seated_then
       (λ h. let h' = honest h in let d = does h' in
       let e = entry_done first t0 old new s s' b next c effect caller call reply tr later sizes alike moments in
       let got = carry.ok first (tapes_of s) t0 s.journal s'.journal b b s.history.items effect base.form base.payloads x e (moments h') (tr.upright.held h') tr.may.sure (spells h') d.0 d.1 refl committed_then in
@@ -209,7 +213,7 @@ module _ (first : State) (t0 : ℕ) (old new : Told) (s s' : Inside) (b : Rebuil
       → Stood first t0 new s'
   switch_waits doubted same form tapes items shape seat unsure some parts carry doubts =
       stood_waits first t0 old new s s' b next c effect caller call reply tr later sizes alike end (Area gate) doubted same tapes items shape seat unsure some parts
-      (λ p shows. subst (λ (f : ℕ). Rebuilds (in_form f p) end) (sym form) (tables_then p shows))
+      (λ p shows. subst (λ (f : ℕ). Runs tr.held [] tr.takings (in_form f p) end) (sym form) (tables_then p shows))
       fills_then
       seated_then
       (λ h. let h' = honest h in let d = doubts h' in

@@ -20,14 +20,14 @@ use Rattle.voice_model.specs.declared.calls.Entry.{Entry}
 use Rattle.voice_model.specs.declared.changes.Change.{Change}
 use Rattle.voice_model.proofs.Heard.{answer_on}
 use Rattle.voice_model.proofs.StatesKept.{state_kept}
-use Rattle.recovery.specs.Shown.{Rebuilds}
+use Rattle.running_tables.specs.Running.{Runs}
 use Rattle.recovery.specs.declared.parts.Parts.{Parts}
 use Rattle.next_changes.specs.Next.{IsNext}
 use Rattle.next_changes.specs.declared.NextChange.{NextChange}
 use Rattle.crash_laws.specs.Standing.{IsHeld}
 use Rattle.voice_store.specs.declared.inside.Inside.{Inside}
 use Rattle.voice_store.specs.declared.inside.Doubted.{Doubted}
-use Rattle.voice_store.specs.Stood.{tapes_of, last_of, in_form, Fills, Brings, IsSeated, AreQuiet, Stood, Lands}
+use Rattle.voice_store.specs.Stood.{tapes_of, last_of, in_form, Fills, Brings, IsSeated, IsHolding, Stood, Lands}
 use Rattle.voice_store.specs.Facts.{entry_of, landing_at}
 use Rattle.voice_store.specs.Trying.{Trying}
 use Rattle.voice_store.proofs.Pushed.{stood_pushed}
@@ -57,6 +57,10 @@ module _ (first : State) (t0 : ℕ) (old new : Told) (s s' : Inside) (b : Rebuil
   shape_fits : s'.journal.shape ≡ s.journal.shape → extent s'.journal.shape ≤ new.size
   shape_fits shape = let is = tr.size in subst (λ (x : Shape). extent x ≤ new.size) (sym shape) (omega (arith, is, sizes))
 
+  -- the lanes hold what they held
+  still_holding : s'.journal.shape ≡ s.journal.shape → IsHolding tr.held tr.takings s'.journal.shape.block last.lanes
+  still_holding shape = subst (λ (x : Shape). IsHolding tr.held tr.takings x.block last.lanes) (sym shape) tr.holding
+
   -- ---- it is done
 
   answers_done : IsAnswer last (tapes_of s) (said reply)
@@ -67,15 +71,15 @@ module _ (first : State) (t0 : ℕ) (old new : Told) (s s' : Inside) (b : Rebuil
 
   pub stood_done : (after' : Rebuilt) (doubt : Doubt) → (tapes : s'.tapes ≡ s.tapes) → s'.history.items ≡ s.history.items ++ said reply ∷ []
       → s'.journal.shape ≡ s.journal.shape → s'.journal.seat ≡ landed_seat s.journal.seat doubt → s'.journal.doubt ≡ None → s'.doubt ≡ None
-      → Rebuilds s'.parts after' → Fills tr.later_fill after' (committed last last.form effect)
+      → Runs tr.held [] tr.takings s'.parts after' → Fills tr.later_fill after' (committed last last.form effect)
       → IsSeated (record s.journal { seat = landed_seat s.journal.seat doubt }) (committed last last.form effect)
       → (IsTrue new.honest → IsHeld first (tapes_of s) t0 s'.journal new after' after' (s.history.items ++ said reply ∷ []))
       → Stood first t0 new s'
   stood_done after' doubt tapes items shape seat sure none tables fills seated held =
       let to : (P : State → Type 0) → P (committed last last.form effect) → P (state_after last (tapes_of s) (said reply)) = λ P p. subst P (sym next_done) p in
-      stood_pushed first t0 old new s s' (said reply) tapes items tr.fill tr.later_fill b after' b after' tr.upright later alike refl (answer_on new.honest last (tapes_of s) (said reply) answers_done)
+      stood_pushed first t0 old new s s' (said reply) tapes items tr.fill tr.later_fill b after' b after' tr.held tr.takings tr.upright later alike refl (answer_on new.honest last (tapes_of s) (said reply) answers_done)
       (state_kept last (tapes_of s) (said reply) tr.upright.valid tr.in_range answers_done)
-      (to (λ t. AreQuiet t.lanes) tr.upright.quiet)
+      (to (λ t. IsHolding tr.held tr.takings s'.journal.shape.block t.lanes) (still_holding shape))
       (to (λ t. Fills tr.later_fill after' t) fills)
       (to (λ t. IsSeated s'.journal t) (seated_as (record s.journal { seat = landed_seat s.journal.seat doubt }) s'.journal (committed last last.form effect) shape seat seated))
       held
@@ -91,15 +95,15 @@ module _ (first : State) (t0 : ℕ) (old new : Told) (s s' : Inside) (b : Rebuil
   next_failed = tr.may.faults.stays new.calls
 
   pub stood_failed : (tapes : s'.tapes ≡ s.tapes) → s'.history.items ≡ s.history.items ++ said (replies.No why.DiskFault) ∷ []
-      → s'.journal.shape ≡ s.journal.shape → s'.journal.seat ≡ s.journal.seat → s'.journal.doubt ≡ None → s'.doubt ≡ None → Rebuilds s'.parts b
+      → s'.journal.shape ≡ s.journal.shape → s'.journal.seat ≡ s.journal.seat → s'.journal.doubt ≡ None → s'.doubt ≡ None → Runs tr.held [] tr.takings s'.parts b
       → (IsTrue new.honest → IsHeld first (tapes_of s) t0 s'.journal new b b (s.history.items ++ said (replies.No why.DiskFault) ∷ []))
       → Stood first t0 new s'
   stood_failed tapes items shape seat sure none tables held =
       let e = said (replies.No why.DiskFault) in
       let to : (P : State → Type 0) → P last → P (state_after last (tapes_of s) e) = λ P p. subst P (sym next_failed) p in
-      stood_pushed first t0 old new s s' e tapes items tr.fill tr.fill b b b b tr.upright later alike refl (answer_on new.honest last (tapes_of s) e tr.may.faults.answers)
+      stood_pushed first t0 old new s s' e tapes items tr.fill tr.fill b b b b tr.held tr.takings tr.upright later alike refl (answer_on new.honest last (tapes_of s) e tr.may.faults.answers)
       (to (λ t. IsState t) tr.upright.valid)
-      (to (λ t. AreQuiet t.lanes) tr.upright.quiet)
+      (to (λ t. IsHolding tr.held tr.takings s'.journal.shape.block t.lanes) (still_holding shape))
       (to (λ t. Fills tr.fill b t) tr.upright.fills)
       (to (λ t. IsSeated s'.journal t) (seated_as s.journal s'.journal last shape seat tr.upright.seated))
       held
@@ -127,7 +131,7 @@ module _ (first : State) (t0 : ℕ) (old new : Told) (s s' : Inside) (b : Rebuil
   pub stood_waits : (after' : Rebuilt) (doubt : Doubt) (doubted : Doubted) → doubted.next ≡ next → (tapes : s'.tapes ≡ s.tapes)
       → s'.history.items ≡ s.history.items ++ said (replies.No why.InDoubt) ∷ []
       → s'.journal.shape ≡ s.journal.shape → s'.journal.seat ≡ s.journal.seat → s'.journal.doubt ≡ Some doubt → s'.doubt ≡ Some doubted → s'.parts ≡ s.parts
-      → ((parts : Parts) → Rebuilds parts (acted b c) → Rebuilds (in_form doubted.form parts) after')
+      → ((parts : Parts) → Runs tr.held [] tr.takings parts (acted b c) → Runs tr.held [] tr.takings (in_form doubted.form parts) after')
       → Fills tr.later_fill after' (committed last last.form effect)
       → IsSeated (record s.journal { seat = landed_seat s.journal.seat doubt }) (committed last last.form effect)
       → (IsTrue new.honest → IsHeld first (tapes_of s) t0 s'.journal new b after' (s.history.items ++ said (replies.No why.InDoubt) ∷ []))
@@ -137,9 +141,9 @@ module _ (first : State) (t0 : ℕ) (old new : Told) (s s' : Inside) (b : Rebuil
       let to : (P : State → Type 0) → P waiting → P (state_after last (tapes_of s) e) = λ P p. subst P (sym next_waits) p in
       let there : (P : State → Type 0) → P (committed last last.form effect) → P (landed waiting) = λ P p. subst P (sym lands_then) p in
       let seat_then : landed_seat s'.journal.seat doubt ≡ landed_seat s.journal.seat doubt = ap (λ (x : Seat). landed_seat x doubt) seat in
-      stood_pushed first t0 old new s s' e tapes items tr.fill tr.fill b b b after' tr.upright later alike refl (answer_on new.honest last (tapes_of s) e tr.may.doubts)
+      stood_pushed first t0 old new s s' e tapes items tr.fill tr.fill b b b after' tr.held tr.takings tr.upright later alike refl (answer_on new.honest last (tapes_of s) e tr.may.doubts)
       (to (λ t. IsState t) valid_waits)
-      (to (λ t. AreQuiet t.lanes) tr.upright.quiet)
+      (to (λ t. IsHolding tr.held tr.takings s'.journal.shape.block t.lanes) (still_holding shape))
       (to (λ t. Fills tr.fill b t) (record { spots = tr.upright.fills.spots; kept = tr.upright.fills.kept; form = tr.upright.fills.form }))
       (to (λ t. IsSeated s'.journal t)
       (seated_as s.journal s'.journal waiting shape seat (record { shape = tr.upright.seated.shape; left = tr.upright.seated.left; epoch = tr.upright.seated.epoch })))
@@ -152,12 +156,12 @@ module _ (first : State) (t0 : ℕ) (old new : Told) (s s' : Inside) (b : Rebuil
         doubt = doubt;
         in_journal = unsure;
         change = c;
-        ready = subst (λ (p : Parts). IsNext p b doubted.next c) (sym parts) (subst (λ (n : NextChange). IsNext s.parts b n c) (sym same) tr.ready);
+        ready = subst (λ (p : Parts). IsNext tr.held tr.takings p b doubted.next c) (sym parts) (subst (λ (n : NextChange). IsNext tr.held tr.takings s.parts b n c) (sym same) tr.ready);
         addresses = tr.addresses;
         spelled = tr.change;
         later_fill = tr.later_fill;
         brings_it = to (λ t. Brings tr.later_fill b c t effect) (record { spots = tr.brings_it.spots; kept = tr.brings_it.kept });
-        lands = to (λ t. Lands s'.journal doubted b after' t c doubt) (record {
+        lands = to (λ t. Lands tr.held tr.takings s'.journal doubted b after' t c doubt) (record {
           tables = tables;
           fill = tr.later_fill;
           fills = there (λ t. Fills tr.later_fill after' t) fills;

@@ -30,7 +30,7 @@ use Rattle.voice_model.specs.declared.changes.Change.TheVariants as kinds
 use Rattle.voice_model.proofs.FitsOfCalls.{recorded_length}
 use Rattle.voice_model.proofs.Heard.{answer_on}
 use Rattle.voice_model.proofs.ChangesOfEffects.{size_again}
-use Rattle.recovery.specs.Shown.{Rebuilds}
+use Rattle.running_tables.specs.Running.{Runs}
 use Rattle.recovery.specs.declared.parts.Parts.{Parts}
 use Rattle.next_ropes.specs.Ready.{IsReady, next_change}
 use Rattle.next_ropes.specs.declared.NextRope.{NextRope}
@@ -81,7 +81,7 @@ Goes first t0 disk s take plan rope =
 
 -- its rope is ready
 abbrev pub holding : (first : State) (t0 : ℕ) (disk : Told) (s : Inside) (take : Take) (way : Way) (room : HasRoom first t0 disk s take way) (parts : Parts) (next : NextRope)
-    → IsReady parts room.makes.stood.b next (change_in room.makes.stood.b next) → next.recorded ≡ true → length next.addresses.items ≡ blocks_for s.journal.shape.block take.len
+    → IsReady room.makes.stood.held room.makes.stood.takings parts room.makes.stood.b next (change_in room.makes.stood.b next) → next.recorded ≡ true → length next.addresses.items ≡ blocks_for s.journal.shape.block take.len
     → all_differ next.addresses.items ≡ true → list_all (is_free_address room.makes.stood.b) next.addresses.items ≡ true → next.pieces ≡ pieces_of (spots_from next.id 0 take.len)
     → HoldsRecording first t0 disk (record s { parts = parts }) take next
 holding first t0 disk s take way room parts next ready recorded many differ spare pieces = record {
@@ -118,7 +118,7 @@ module _ (first : State) (t0 : ℕ) (old : Told) (s : Inside) (take : Take) (nex
   abbrev addresses : List ℕ
   addresses = next.addresses.items
 
-  tables_then : IsSure then b h.makes.stood.after last
+  tables_then : IsSure h.makes.stood.held h.makes.stood.takings then b h.makes.stood.after last
   tables_then = is_sure first t0 old then h.makes.stood h.makes.sure
 
   pub in_shape : b.shape ≡ s.journal.shape
@@ -205,7 +205,6 @@ module _ (first : State) (t0 : ℕ) (old : Told) (s : Inside) (take : Take) (nex
     upright_on = let up = upright_then in record {
       legal = as_honest first old new s alike up.legal;
       valid = up.valid;
-      quiet = up.quiet;
       fills = up.fills;
       seated = up.seated;
       acks = acks_later t0 s.history.items old.calls new.calls up.acks later_on;
@@ -219,6 +218,9 @@ module _ (first : State) (t0 : ℕ) (old : Told) (s : Inside) (take : Take) (nex
       upright = upright_on;
       sure = h.makes.sure;
       in_journal = tables_then.in_journal;
+      held = h.makes.stood.held;
+      takings = h.makes.stood.takings;
+      holding = h.makes.stood.holding;
       ready = h.ready;
       addresses = addresses;
       change = the_change;
@@ -239,7 +241,7 @@ module _ (first : State) (t0 : ℕ) (old : Told) (s : Inside) (take : Take) (nex
     }
 
     -- a write failed, and the blocks are free again
-    pub stood_unwritten : (caller : ℕ) (parts : Parts) (history : Vec Entry Global) → Rebuilds parts b → history.items ≡ s.history.items ++ entry_of caller (calls.Record take) (replies.No why.DiskFault) new.calls ∷ []
+    pub stood_unwritten : (caller : ℕ) (parts : Parts) (history : Vec Entry Global) → Runs h.makes.stood.held [] h.makes.stood.takings parts b → history.items ≡ s.history.items ++ entry_of caller (calls.Record take) (replies.No why.DiskFault) new.calls ∷ []
         → Stood first t0 new (record s { parts = parts; history = history })
     stood_unwritten caller parts history shows items =
         let up = upright_on in
@@ -247,7 +249,10 @@ module _ (first : State) (t0 : ℕ) (old : Told) (s : Inside) (take : Take) (nex
           fill = h.makes.stood.fill;
           b = b;
           after = b;
-          upright = record { legal = up.legal; valid = up.valid; quiet = up.quiet; fills = up.fills; seated = up.seated; acks = up.acks; held = up.held };
+          held = h.makes.stood.held;
+          takings = h.makes.stood.takings;
+          holding = h.makes.stood.holding;
+          upright = record { legal = up.legal; valid = up.valid; fills = up.fills; seated = up.seated; acks = up.acks; held = up.held };
           tables = inl (record { sure = h.makes.sure; in_journal = tables_then.in_journal; in_state = tables_then.in_state; tables = shows; same = refl });
           size = let is = h.makes.stood.size in omega (arith, is, sizes_same);
         } in

@@ -3,6 +3,7 @@
 --     Alters first t0 disk s call ready reply growth      nothing is in doubt, and nothing refuses the call that makes a change ready, but perhaps the journal
 use Rattle.std.specs.Prelude.{◌≡◌, ℕ, ◌+◌, List, length, Some, None, IsTrue}
 use Rattle.voice_units.specs.Spots.{Spot}
+use Rattle.voice_units.specs.declared.pieces.Piece.{Piece}
 use Rattle.voice_outside.specs.Disk.{Told}
 use Rattle.voice_model.specs.Samples.{Tagged}
 use Rattle.voice_model.specs.State.{State, Effect}
@@ -22,7 +23,9 @@ use Rattle.voice_store.specs.Stood.{Stood, last_of, tapes_of, Fills, Brings, IsS
 
 -- a change is ready in the tables of a store, and is this effect on the state; what is rebuilt gives the state, before it and after it
 pub record Weighs (s : Inside) (b : Rebuilt) (next : NextChange) (c : Change) (state : State) (effect : Effect Tagged) : Type 0 where
-  pub is_next : IsNext s.parts b next c
+  pub held : List (List Piece)
+  pub takings : List ℕ
+  pub is_next : IsNext held takings s.parts b next c
   pub in_shape : b.shape ≡ s.journal.shape
   pub fill : Spot → Tagged
   pub fills : Fills fill b state

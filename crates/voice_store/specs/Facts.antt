@@ -12,7 +12,7 @@
 --     hears call      a call that hears a rope
 --     only_tells call      a call that is answered by the tables alone
 --     stretches_of s id      how many stretches a rope has
---     most_reads, most_calls s call      how many blocks it reads, and how many device calls its answer takes, at most
+--     most_reads s call      how many blocks it reads, at most
 use Rattle.std.specs.Prelude.{◌≡◌, ◌⊎◌, ℕ, ◌+◌, ◌≤◌, Bool, true, false, List, [], ◌∷◌, ◌++◌, length, Some, None}
 use Rattle.voice_outside.specs.Disk.{Told}
 use Rattle.voice_units.specs.Spots.{stretches}
@@ -118,12 +118,3 @@ abbrev pub most_reads : State → Call → ℕ
 most_reads s (calls.Describe id) = stretches_of s id
 most_reads s (calls.Levels id) = stretches_of s id
 most_reads s _ = 0
-
--- how many device calls the answer to a call takes at most, with a landing before it
-abbrev pub most_calls : State → Call → ℕ
-most_calls s (calls.Length id) = 0
-most_calls s (calls.Lookup class key) = 0
-most_calls s (calls.Describe id) = stretches_of s id
-most_calls s (calls.Levels id) = stretches_of s id
-most_calls s (calls.Record take) = 8 + take.len
-most_calls s _ = 8

@@ -72,7 +72,7 @@ pub record HoldsRecording (first : State) (t0 : ℕ) (disk : Told) (s : Inside) 
   pub before : Parts
   pub makes : MakesRecording first t0 disk (record s { parts = before }) take
   pub free : is_journal_full (last_of first s) (recorded_by (last_of first s) (tapes_of s) take) ≡ false
-  pub ready : IsReady s.parts makes.stood.b next (next_change makes.stood.b.form next)
+  pub ready : IsReady makes.stood.held makes.stood.takings s.parts makes.stood.b next (next_change makes.stood.b.form next)
   pub recorded : next.recorded ≡ true
   pub many : length next.addresses.items ≡ blocks_for s.journal.shape.block take.len
   pub differ : all_differ next.addresses.items ≡ true

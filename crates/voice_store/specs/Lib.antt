@@ -1,8 +1,10 @@
 pub mod Altering
 pub mod Asking
+pub mod DeviceCalls
 pub mod Facts
 pub mod Keeping
 pub mod Shown
+pub mod Spare
 pub mod Stood
 pub mod Trying
 pub mod Ways

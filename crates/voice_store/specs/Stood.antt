@@ -2,21 +2,23 @@
 --     last_state first tapes history      the state after the history
 --     Fills fill b s      what is rebuilt, filled in so, is what outlives a crash of the state
 --     Brings fill b c s effect      the change, filled in so, is the effect
---     ShowsState parts s      the tables show what outlives a crash of the state
+--     IsHolding held takings block lanes      lanes hold these passages, and open recordings have taken so many blocks
+--     ShowsState parts s      the tables show what outlives a crash of the state, while its lanes hold what they hold
 --     IsSeated journal s      the journal's place is that of the state
 --     AcksRise low history high      the moments of the entries never fall, and lie between these
 --     Upright      the history is legal (on a disk that isn't honest but for what was read off it), and the disk holds it, whatever the tables show
 --     IsSure, IsUnsure      the tables show the state: nothing is in doubt, or a change is ready to be done
 --     Stood      all of it, but for the count of faults
-use Rattle.std.specs.Prelude.{◌≡◌, ◌⊎◌, ℕ, ◌+◌, ◌≤◌, Bool, true, false, List, [], ◌∷◌, length, replicate, Some, None, IsTrue}
+use Rattle.std.specs.Prelude.{◌≡◌, ◌⊎◌, ℕ, ◌+◌, ◌≤◌, Bool, true, false, List, [], ◌∷◌, Some, None, IsTrue}
 use Rattle.std.specs.Arc.{arc_value}
 use Rattle.voice_units.specs.Spots.{Spot}
+use Rattle.voice_units.specs.declared.pieces.Piece.{Piece}
 use Rattle.voice_outside.specs.Disk.{Told}
 use Rattle.voice_journal.specs.Places.{JournalValue, landed as landed_seat}
 use Rattle.voice_journal.specs.Readings.{extent}
 use Rattle.voice_journal.specs.declared.seats.Doubt.{Doubt}
 use Rattle.voice_model.specs.Samples.{Tagged, spot_of}
-use Rattle.voice_model.specs.State.{State, Effect, LaneState, Pending, quiet_lane}
+use Rattle.voice_model.specs.State.{State, Effect, LaneState, Pending}
 use Rattle.voice_model.specs.Changes.{changed}
 use Rattle.voice_model.specs.Step.{Outcome, outcome_of, landed}
 use Rattle.voice_model.specs.Step as step
@@ -26,7 +28,7 @@ use Rattle.voice_model.specs.Base.{change_of}
 use Rattle.voice_model.specs.Valid.{IsState}
 use Rattle.voice_model.specs.declared.changes.Change.{Change}
 use Rattle.voice_model.specs.declared.calls.Entry.{Entry}
-use Rattle.recovery.specs.Shown.{Rebuilds}
+use Rattle.running_tables.specs.Running.{Runs, passages_of, takings_of}
 use Rattle.recovery.specs.declared.parts.Parts.{Parts}
 use Rattle.next_changes.specs.Next.{IsNext}
 use Rattle.crash_laws.specs.Standing.{IsHeld}
@@ -54,10 +56,18 @@ pub record Brings (fill : Spot → Tagged) (b : Rebuilt) (c : Change) (s : State
   pub spots : (x : Spot) → spot_of (fill x) ≡ x
   pub kept : durable_by fill (acted b c).kept ≡ changed s.form s.kept effect
 
--- the tables show what outlives a crash of the state, but for the bytes of the samples
+-- lanes hold these passages, and open recordings have taken so many blocks
+pub record IsHolding (held : List (List Piece)) (takings : List ℕ) (block : ℕ) (lanes : List LaneState) : Type 0 where
+  pub passages : held ≡ passages_of lanes
+  pub recordings : takings ≡ takings_of block lanes
+
+-- the tables show what outlives a crash of the state, but for the bytes of the samples, while its lanes hold what they hold
 pub record ShowsState (parts : Parts) (s : State) : Type 0 where
+  pub held : List (List Piece)
+  pub takings : List ℕ
+  pub holding : IsHolding held takings s.shape.block s.lanes
   pub rebuilt : Rebuilt
-  pub tables : Rebuilds parts rebuilt
+  pub tables : Runs held [] takings parts rebuilt
   pub fill : Spot → Tagged
   pub fills : Fills fill rebuilt s
 
@@ -80,41 +90,36 @@ is_fault_of _ = true
 abbrev pub is_fault : Entry → Bool
 is_fault e = is_fault_of (outcome_of e.reply)
 
--- no lane has a job or a recording
-abbrev pub AreQuiet : List LaneState → Type 0
-AreQuiet lanes = lanes ≡ replicate (length lanes) quiet_lane
-
 -- the history is legal, on a disk that isn't honest but for the talk and peaks that were read off it, and the disk holds it, whatever the tables show
 pub record Upright (first : State) (t0 : ℕ) (disk : Told) (s : Inside) (fill : Spot → Tagged) (b after : Rebuilt) : Type 0 where
   pub legal : LegalOn disk.honest first (tapes_of s) s.history.items
   pub valid : IsState (last_of first s)
-  pub quiet : AreQuiet (last_of first s).lanes
   pub fills : Fills fill b (last_of first s)
   pub seated : IsSeated s.journal (last_of first s)
   pub acks : AcksRise t0 s.history.items disk.calls
   pub held : IsTrue disk.honest → IsHeld first (tapes_of s) t0 s.journal disk b after s.history.items
 
 -- nothing is in doubt, and the tables show the state
-pub record IsSure (s : Inside) (b after : Rebuilt) (last : State) : Type 0 where
+pub record IsSure (held : List (List Piece)) (takings : List ℕ) (s : Inside) (b after : Rebuilt) (last : State) : Type 0 where
   pub sure : s.doubt ≡ None
   pub in_journal : s.journal.doubt ≡ None
   pub in_state : last.doubt ≡ None
-  pub tables : Rebuilds s.parts b
+  pub tables : Runs held [] takings s.parts b
   pub same : after ≡ b
 
 abbrev pub in_form : ℕ → Parts → Parts
 in_form form parts = record parts { form = form }
 
 -- once what is in doubt has landed, and is done, the tables show the state
-pub record Lands (journal : JournalValue) (doubted : Doubted) (b after : Rebuilt) (last : State) (c : Change) (doubt : Doubt) : Type 0 where
-  pub tables : (parts : Parts) → Rebuilds parts (acted b c) → Rebuilds (in_form doubted.form parts) after
+pub record Lands (held : List (List Piece)) (takings : List ℕ) (journal : JournalValue) (doubted : Doubted) (b after : Rebuilt) (last : State) (c : Change) (doubt : Doubt) : Type 0 where
+  pub tables : (parts : Parts) → Runs held [] takings parts (acted b c) → Runs held [] takings (in_form doubted.form parts) after
   pub fill : Spot → Tagged
   pub fills : Fills fill after (landed last)
   pub seated : IsSeated (record journal { seat = landed_seat journal.seat doubt }) (landed last)
   pub valid : IsState (landed last)
 
 -- a change is in doubt, and ready to be done
-pub record IsUnsure (s : Inside) (b after : Rebuilt) (last : State) : Type 0 where
+pub record IsUnsure (held : List (List Piece)) (takings : List ℕ) (s : Inside) (b after : Rebuilt) (last : State) : Type 0 where
   pub doubted : Doubted
   pub unsure : s.doubt ≡ Some doubted
   pub pending : Pending
@@ -122,18 +127,21 @@ pub record IsUnsure (s : Inside) (b after : Rebuilt) (last : State) : Type 0 whe
   pub doubt : Doubt
   pub in_journal : s.journal.doubt ≡ Some doubt
   pub change : Change
-  pub ready : IsNext s.parts b doubted.next change
+  pub ready : IsNext held takings s.parts b doubted.next change
   pub addresses : List ℕ
   pub spelled : change ≡ change_of b.form addresses pending.effect
   pub later_fill : Spot → Tagged
   pub brings_it : Brings later_fill b change last pending.effect
-  pub lands : Lands s.journal doubted b after last change doubt
+  pub lands : Lands held takings s.journal doubted b after last change doubt
 
 -- what a store keeps, between its calls, that was opened at moment t0
 pub record Stood (first : State) (t0 : ℕ) (disk : Told) (s : Inside) : Type 0 where
   pub fill : Spot → Tagged
   pub b : Rebuilt
   pub after : Rebuilt
+  pub held : List (List Piece)
+  pub takings : List ℕ
+  pub holding : IsHolding held takings s.journal.shape.block (last_of first s).lanes
   pub upright : Upright first t0 disk s fill b after
-  pub tables : IsSure s b after (last_of first s) ⊎ IsUnsure s b after (last_of first s)
+  pub tables : IsSure held takings s b after (last_of first s) ⊎ IsUnsure held takings s b after (last_of first s)
   pub size : extent s.journal.shape ≤ disk.size

@@ -7,6 +7,7 @@
 use Rattle.std.specs.Prelude.{◌≡◌, ℕ, ◌+◌, ◌-◌, ◌≤◌, ◌<◌, ◌^◌, ◌||◌, ◌==◌, nat_le, cond, List, map, length, None, IsTrue}
 use Rattle.voice_units.specs.declared.shapes.Shape.{Shape}
 use Rattle.voice_units.specs.Spots.{Spot}
+use Rattle.voice_units.specs.declared.pieces.Piece.{Piece}
 use Rattle.voice_outside.specs.Disk.{Told}
 use Rattle.voice_journal.specs.Readings.{extent, framed_size}
 use Rattle.voice_model.specs.Samples.{Tagged}
@@ -31,7 +32,7 @@ use Rattle.voice_store.specs.declared.committing.Plan.{Plan}
 use Rattle.voice_store.specs.declared.committing.Plan.TheVariants as plans
 use Rattle.voice_store.specs.Ways.{FitsBehind, FitsOther}
 use Rattle.voice_store.specs.declared.inside.Inside.{Inside}
-use Rattle.voice_store.specs.Stood.{tapes_of, last_of, Upright, Brings}
+use Rattle.voice_store.specs.Stood.{tapes_of, last_of, IsHolding, Upright, Brings}
 use Rattle.voice_store.specs.Facts.{MayCommit}
 
 -- the form that a switch takes: 2, but 1 from form 1 where a base of form 2 does not fit an area
@@ -54,7 +55,10 @@ pub record Trying (first : State) (t0 : ℕ) (disk : Told) (s : Inside) (b : Reb
   pub upright : Upright first t0 disk s fill b b
   pub sure : s.doubt ≡ None
   pub in_journal : s.journal.doubt ≡ None
-  pub ready : IsNext s.parts b next c
+  pub held : List (List Piece)
+  pub takings : List ℕ
+  pub holding : IsHolding held takings s.journal.shape.block (last_of first s).lanes
+  pub ready : IsNext held takings s.parts b next c
   pub addresses : List ℕ
   pub change : c ≡ change_of b.form addresses effect
   pub may : MayCommit (last_of first s) (tapes_of s) caller call effect
@@ -68,9 +72,11 @@ pub record Trying (first : State) (t0 : ℕ) (disk : Told) (s : Inside) (b : Reb
 
 -- a change is ready in the tables of a store
 pub record IsReadyIn (s : Inside) (next : NextChange) : Type 0 where
+  pub held : List (List Piece)
+  pub takings : List ℕ
   pub b : Rebuilt
   pub c : Change
-  pub ready : IsNext s.parts b next c
+  pub ready : IsNext held takings s.parts b next c
   pub in_shape : b.shape ≡ s.journal.shape
 
 -- the change gets into the journal so; r is what is rebuilt after it

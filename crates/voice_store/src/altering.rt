@@ -1,6 +1,6 @@
 //! Changes of interests, of the moment and sweeps.
 
-ghost use Rattle.std.specs.Prelude.{◌≡◌, ◌+◌, ◌≤◌, ◌<◌, ◌++◌, ◌∷◌, [], ℕ, None, IsTrue, IfSome, IfOk, OnErr, length, vec_len, vec_capacity};
+ghost use Rattle.std.specs.Prelude.{◌≡◌, ◌+◌, ◌≤◌, ◌<◌, ◌++◌, ◌∷◌, [], ℕ, None, Some, Ok, IsTrue, IfSome, IsOk, IfOk, OnErr, length, vec_len, vec_capacity};
 ghost use Rattle.voice_outside.specs.Counters.{HasRisen};
 ghost use Rattle.voice_model.specs.Samples.{Tagged};
 ghost use Rattle.voice_model.specs.State.{State, Effect};
@@ -9,13 +9,16 @@ ghost use Rattle.voice_model.specs.Replay.{Rebuilt, acted};
 ghost use Rattle.voice_model.specs.Valid.{InRange};
 ghost use Rattle.voice_model.specs.declared.Change.{Change};
 ghost use Rattle.next_changes.specs.Next.{payload_of};
-ghost use Rattle.row_calls.specs.Asked.{is_row_call, Grows};
+ghost use Rattle.row_calls.specs.Asked.{is_row_call, takes_no_memory, Grows};
 ghost use Rattle.voice_store.specs.Stood.{Stood, IsSeated, last_of, tapes_of};
 ghost use Rattle.voice_store.specs.Ways.{IsWay};
 ghost use Rattle.voice_store.specs.Trying.{IsReadyIn};
 ghost use Rattle.voice_store.specs.Altering.{Weighs, Alters};
+ghost use Rattle.voice_store.specs.Spare.{FitsBehindOthers};
+ghost use Rattle.voice_store.specs.DeviceCalls.{change_calls};
 ghost use Rattle.voice_store.specs.Facts.{Goes, IsFault, Stays, entry_of};
 
+use crate::committing::Plan;
 use crate::inside::Inside;
 use crate::replies::twice;
 use crate::ways::{LAST_EPOCH, Way};
@@ -48,7 +51,8 @@ impl Inside {
 
     // How a change that makes the base no longer gets into the journal, where that is told without the base after it.
     fn way_at_once(&self, frame: u64, base: u128) -> Option<Way>
-        ensures { (s : State) (effect : Effect Tagged) → IsSeated self.now.journal s → base ≡ base_size s.form s.kept → frame ≡ frame_size s.form s.kept.shape.block effect → base_size s.form (changed s.form s.kept effect) ≤ base → IfSome result (IsWay s effect) }
+        ensures way { (s : State) (effect : Effect Tagged) → IsSeated self.now.journal s → base ≡ base_size s.form s.kept → frame ≡ frame_size s.form s.kept.shape.block effect → base_size s.form (changed s.form s.kept effect) ≤ base → IfSome result (IsWay s effect) }
+        ensures behind { frame + self.now.journal.seat.gate + 1 ≤ self.now.journal.shape.area → result ≡ Some Way.Append }
     {
         let left = self.journal.left();
         if frame <= left {
@@ -67,7 +71,8 @@ impl Inside {
     // How a change gets into the journal, by what it does to the base.
     fn way_of(&self, next: &NextChange, growth: Growth) -> Result<Way, NoMemory>
         requires { IsReadyIn self.now next.now }
-        ensures { (b : Rebuilt) (c : Change) (s : State) (effect : Effect Tagged) → Weighs self.now b next.now c s effect → Grows s effect growth → IfOk result (IsWay s effect) }
+        ensures way { (b : Rebuilt) (c : Change) (s : State) (effect : Effect Tagged) → Weighs self.now b next.now c s effect → Grows s effect growth → IfOk result (IsWay s effect) }
+        ensures behind { growth ≡ Growth.NotLonger → 5 + length (payload_of next.now) + self.now.journal.seat.gate + 1 ≤ self.now.journal.shape.area → result ≡ Ok Way.Append }
     {
         let frame = frame_of(next);
         let base = parts_size(&self.parts);
@@ -98,12 +103,14 @@ impl Inside {
         requires plain { ¬ IsFault replies.1 }
         requires room { vec_len self.old.history < vec_capacity self.old.history }
         ensures goes { Goes 6 (D.told disk.old) (D.told disk.new) }
+        ensures calls { (first : State) (t0 : ℕ) → Alters first t0 (D.told disk.old) self.old call ready replies.0 growth → (D.told disk.new).calls ≤ (D.told disk.old).calls + change_calls (last_of first self.old) (tapes_of self.old) call }
         ensures cause { IfOk result (λ reply. IsFault reply → HasRisen (D.told disk.old).faults (D.told disk.new).faults) }
         ensures items { IfOk result (λ reply. self.new.history.items ≡ self.old.history.items ++ entry_of caller call reply (D.told disk.new).calls ∷ []) }
         ensures err { OnErr result (self.new.history.items ≡ self.old.history.items) }
         ensures still { OnErr result (disk.new ≡ disk.old) }
         ensures tapes { self.new.tapes ≡ self.old.tapes }
         ensures stood { (first : State) (t0 : ℕ) → Alters first t0 (D.told disk.old) self.old call ready replies.0 growth → Stood first t0 (D.told disk.new) self.new }
+        ensures spare { growth ≡ Growth.NotLonger → 5 + length ready.payload.items + self.old.journal.seat.gate + 1 ≤ self.old.journal.shape.area → IsOk result }
     {
         foundations();
         disks_are_honest(disk);
@@ -113,10 +120,7 @@ impl Inside {
             Way::Full(most, left) => {
                 Ok(self.refuse(disk, caller, call, Why::JournalFull(most, left)))
             }
-            Way::Append => {
-                let plan = self.plan(&next, Way::Append)?;
-                Ok(self.commit(disk, caller, call, replies, next, plan))
-            }
+            Way::Append => Ok(self.commit(disk, caller, call, replies, next, Plan::Append)),
             Way::Switch => {
                 let plan = self.plan(&next, Way::Switch)?;
                 Ok(self.commit(disk, caller, call, replies, next, plan))
@@ -156,12 +160,14 @@ impl Inside {
         requires range { InRange call }
         requires room { vec_len self.old.history < vec_capacity self.old.history }
         ensures goes { Goes 6 (D.told disk.old) (D.told disk.new) }
+        ensures calls { (first : State) (t0 : ℕ) → Stood first t0 (D.told disk.old) self.old → (D.told disk.new).calls ≤ (D.told disk.old).calls + change_calls (last_of first self.old) (tapes_of self.old) call }
         ensures cause { IfOk result (λ reply. IsFault reply → HasRisen (D.told disk.old).faults (D.told disk.new).faults) }
         ensures items { IfOk result (λ reply. self.new.history.items ≡ self.old.history.items ++ entry_of caller call reply (D.told disk.new).calls ∷ []) }
         ensures err { OnErr result (self.new.history.items ≡ self.old.history.items) }
         ensures still { OnErr result (disk.new ≡ disk.old) }
         ensures tapes { self.new.tapes ≡ self.old.tapes }
         ensures stood { (first : State) (t0 : ℕ) → Stood first t0 (D.told disk.old) self.old → Stood first t0 (D.told disk.new) self.new }
+        ensures spare { (first : State) (t0 : ℕ) → Stood first t0 (D.told disk.old) self.old → IsTrue (takes_no_memory call) → FitsBehindOthers (last_of first self.old) (tapes_of self.old) call → IsOk result }
     {
         let graces = self.journal.shape().graces;
         match ask(self.alloc, &mut self.parts, &graces, &call)? {

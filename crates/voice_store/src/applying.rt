@@ -4,11 +4,15 @@ ghost use Rattle.std.specs.Prelude.{◌≡◌, ◌+◌, ◌≤◌, ◌<◌, ◌+
 ghost use Rattle.voice_outside.specs.Counters.{HasRisen};
 ghost use Rattle.voice_model.specs.State.{State};
 ghost use Rattle.voice_model.specs.Changes.{is_changing};
+ghost use Rattle.voice_model.specs.Step.{landed};
 ghost use Rattle.voice_model.specs.Valid.{InRange};
+ghost use Rattle.row_calls.specs.Asked.{takes_no_memory};
 ghost use Rattle.voice_store.specs.Asking.{IsAsking};
+ghost use Rattle.voice_store.specs.Spare.{FitsBehindOthers};
 ghost use Rattle.voice_store.specs.Stood.{Stood, last_of, tapes_of};
 ghost use Rattle.listening.specs.Looks.{Looked};
-ghost use Rattle.voice_store.specs.Facts.{Adds, AddsLanding, Goes, HasRopes, IsFault, Stays, TakesAreIn, entry_of, hears, only_tells, most_reads, most_calls};
+ghost use Rattle.voice_store.specs.DeviceCalls.{change_calls, landing_calls, most_calls};
+ghost use Rattle.voice_store.specs.Facts.{Adds, AddsLanding, Goes, GoesOn, HasRopes, IsFault, Stays, TakesAreIn, entry_of, hears, only_tells, most_reads};
 ghost use Rattle.built_calls.specs.Built.{is_built};
 
 use crate::hearing::Sound;
@@ -45,6 +49,8 @@ impl Inside {
         requires stood { (first : State) × (t0 : ℕ) × Stood first t0 (D.told disk.old) self.old }
         requires room { vec_len self.old.history + 2 ≤ vec_capacity self.old.history }
         ensures goes { Goes 2 (D.told disk.old) (D.told disk.new) }
+        ensures calls { (first : State) (t0 : ℕ) → Stood first t0 (D.told disk.old) self.old → (D.told disk.new).calls ≤ (D.told disk.old).calls + landing_calls (last_of first self.old) }
+        ensures landed { result ≡ true → (first : State) (t0 : ℕ) → Stood first t0 (D.told disk.old) self.old → last_of first self.new ≡ landed (last_of first self.old) }
         ensures cause { result ≡ false → HasRisen (D.told disk.old).faults (D.told disk.new).faults }
         ensures sure { result ≡ true → self.new.doubt ≡ None }
         ensures unsure { result ≡ false → (first : State) (t0 : ℕ) → Stood first t0 (D.told disk.old) self.old → IsTrue (is_some (last_of first self.new).doubt) }
@@ -81,13 +87,15 @@ impl Inside {
         requires ropes { HasRopes call }
         requires range { InRange call }
         requires room { vec_len self.old.history < vec_capacity self.old.history }
-        ensures goes { (s : State) (calls : ℕ) → most_calls s call ≡ calls + 2 → Goes calls (D.told disk.old) (D.told disk.new) }
+        ensures goes { GoesOn (D.told disk.old) (D.told disk.new) }
+        ensures calls { (first : State) (t0 : ℕ) → Stood first t0 (D.told disk.old) self.old → (D.told disk.new).calls ≤ (D.told disk.old).calls + change_calls (last_of first self.old) (tapes_of self.old) call }
         ensures cause { IfOk result (λ reply. IsFault reply → HasRisen (D.told disk.old).faults (D.told disk.new).faults) }
         ensures items { IfOk result (λ reply. self.new.history.items ≡ self.old.history.items ++ entry_of caller call reply (D.told disk.new).calls ∷ []) }
         ensures err { OnErr result (self.new.history.items ≡ self.old.history.items) }
         ensures still { OnErr result (disk.new ≡ disk.old) }
         ensures tapes { self.new.tapes ≡ self.old.tapes }
         ensures stood { (first : State) (t0 : ℕ) → Stood first t0 (D.told disk.old) self.old → Stood first t0 (D.told disk.new) self.new }
+        ensures spare { (first : State) (t0 : ℕ) → Stood first t0 (D.told disk.old) self.old → IsTrue (takes_no_memory call) → FitsBehindOthers (last_of first self.old) (tapes_of self.old) call → IsOk result }
     {
         match call {
             Call::Record(take) => self.record(disk, caller, take),
@@ -114,14 +122,16 @@ impl Inside {
         requires ropes { HasRopes call }
         requires range { InRange call }
         requires room { vec_len self.old.history + 2 ≤ vec_capacity self.old.history }
-        ensures goes { (s : State) → Goes (most_calls s call) (D.told disk.old) (D.told disk.new) }
+        ensures goes { GoesOn (D.told disk.old) (D.told disk.new) }
+        ensures calls { (first : State) (t0 : ℕ) → Stood first t0 (D.told disk.old) self.old → (D.told disk.new).calls ≤ (D.told disk.old).calls + most_calls (last_of first self.old) (tapes_of self.old) call }
         ensures cause { IfOk result (λ reply. IsFault reply → HasRisen (D.told disk.old).faults (D.told disk.new).faults) }
         ensures entry { IfOk result (λ reply. Adds caller call reply (D.told disk.new).calls self.old.history.items self.new.history.items) }
         ensures err { OnErr result (AddsLanding self.old.history.items self.new.history.items) }
-        ensures few { OnErr result (Goes 2 (D.told disk.old) (D.told disk.new)) }
+        ensures few { (first : State) (t0 : ℕ) → Stood first t0 (D.told disk.old) self.old → OnErr result ((D.told disk.new).calls ≤ (D.told disk.old).calls + landing_calls (last_of first self.old)) }
         ensures still { self.old.doubt ≡ None → OnErr result ((disk.new ≡ disk.old) × (self.new.history.items ≡ self.old.history.items)) }
         ensures tapes { self.new.tapes ≡ self.old.tapes }
         ensures stood { (first : State) (t0 : ℕ) → Stood first t0 (D.told disk.old) self.old → Stood first t0 (D.told disk.new) self.new }
+        ensures spare { self.old.doubt ≡ None → (first : State) (t0 : ℕ) → Stood first t0 (D.told disk.old) self.old → IsTrue (takes_no_memory call) → FitsBehindOthers (last_of first self.old) (tapes_of self.old) call → IsOk result }
     {
         if !self.land_first(disk) {
             return Ok(self.note_fault(disk, caller, call));
@@ -143,12 +153,14 @@ impl Inside {
         requires range { InRange call }
         ensures entry { IfOk result (λ reply. Adds caller call reply (D.told disk.new).calls self.old.history.items self.new.history.items) }
         ensures err { OnErr result (AddsLanding self.old.history.items self.new.history.items) }
-        ensures few { (first : State) (t0 : ℕ) → Stood first t0 (D.told disk.old) self.old → OnErr result (Goes (2 + most_reads (last_of first self.old) call) (D.told disk.old) (D.told disk.new)) }
+        ensures few { (first : State) (t0 : ℕ) → Stood first t0 (D.told disk.old) self.old → OnErr result ((D.told disk.new).calls ≤ (D.told disk.old).calls + (landing_calls (last_of first self.old) + most_reads (last_of first self.old) call)) }
         ensures still { self.old.doubt ≡ None → OnErr result ((self.new.history.items ≡ self.old.history.items) × (hears call ≡ false → disk.new ≡ disk.old)) }
         ensures looks { IsTrue (hears call) → (first : State) (t0 : ℕ) → Stood first t0 (D.told disk.old) self.old → Looked (most_reads (last_of first self.old) call) (D.told disk.old) (D.told disk.new) }
         ensures spare { IsTrue (only_tells call) → vec_len self.old.history + 2 ≤ vec_capacity self.old.history → IsOk result }
+        ensures behind { self.old.doubt ≡ None → (first : State) (t0 : ℕ) → Stood first t0 (D.told disk.old) self.old → IsTrue (takes_no_memory call) → FitsBehindOthers (last_of first self.old) (tapes_of self.old) call → vec_len self.old.history + 2 ≤ vec_capacity self.old.history → IsOk result }
         ensures cause { IfOk result (λ reply. IsFault reply → HasRisen (D.told disk.old).faults (D.told disk.new).faults) }
-        ensures goes { (first : State) (t0 : ℕ) → Stood first t0 (D.told disk.old) self.old → Goes (most_calls (last_of first self.old) call) (D.told disk.old) (D.told disk.new) }
+        ensures goes { GoesOn (D.told disk.old) (D.told disk.new) }
+        ensures calls { (first : State) (t0 : ℕ) → Stood first t0 (D.told disk.old) self.old → (D.told disk.new).calls ≤ (D.told disk.old).calls + most_calls (last_of first self.old) (tapes_of self.old) call }
         ensures tapes { self.new.tapes ≡ self.old.tapes }
         ensures stood { (first : State) (t0 : ℕ) → Stood first t0 (D.told disk.old) self.old → Stood first t0 (D.told disk.new) self.new }
     {

@@ -1,18 +1,20 @@
 //! A change that is ready gets into the journal, and its call is entered.
 
-ghost use Rattle.std.specs.Prelude.{◌≡◌, ◌+◌, ◌≤◌, ◌<◌, ◌^◌, ◌++◌, ◌∷◌, [], ℕ, None, Some, length, vec_len, vec_capacity, IfOk};
+ghost use Rattle.std.specs.Prelude.{◌≡◌, ◌+◌, ◌≤◌, ◌<◌, ◌^◌, ◌++◌, ◌∷◌, [], ℕ, List, None, Some, length, vec_len, vec_capacity, IfOk};
+ghost use Rattle.voice_units.specs.declared.Piece.{Piece};
 ghost use Rattle.voice_outside.specs.Counters.{HasRisen};
 ghost use Rattle.voice_journal.specs.Readings.{extent, framed_size};
 ghost use Rattle.voice_model.specs.Samples.{Tagged};
 ghost use Rattle.voice_model.specs.State.{State, Effect};
 ghost use Rattle.voice_model.specs.Replay.{Rebuilt, acted};
 ghost use Rattle.voice_model.specs.declared.Change.{Change};
-ghost use Rattle.recovery.specs.Shown.{Rebuilds};
+ghost use Rattle.running_tables.specs.Running.{Runs};
 ghost use Rattle.checkpoint.specs.Compact.{ShowsUsed};
 ghost use Rattle.next_changes.specs.Next.{IsNext, payload_of};
 ghost use Rattle.voice_store.specs.Stood.{Stood, last_of};
 ghost use Rattle.voice_store.specs.Ways.{FitsBehind, FitsOther};
 ghost use Rattle.voice_store.specs.Trying.{IsBaseOf, Trying, IsReadyIn, IsPlan, CanGo};
+ghost use Rattle.voice_store.specs.DeviceCalls.{plan_calls};
 ghost use Rattle.voice_store.specs.Facts.{Goes, IsFault, entry_of};
 
 use crate::entering::enter;
@@ -60,7 +62,7 @@ impl Inside {
     /// The base that a switch writes as this change comes.
     pub(crate) fn base_after(&self, next: &NextChange) -> Result<Base, NoMemory>
         requires { IsReadyIn self.now next.now }
-        ensures { (b : Rebuilt) (c : Change) → IsNext self.now.parts b next.now c → b.shape ≡ self.now.journal.shape → IfOk result (IsBaseOf self.now.journal.shape (acted b c)) }
+        ensures { (held : List (List Piece)) (takings : List ℕ) (b : Rebuilt) (c : Change) → IsNext held takings self.now.parts b next.now c → b.shape ≡ self.now.journal.shape → IfOk result (IsBaseOf self.now.journal.shape (acted b c)) }
     {
         let shape = self.journal.shape();
         let after = parts_after(self.alloc, &self.parts, &shape, next)?;
@@ -71,7 +73,7 @@ impl Inside {
     fn done<D: Disk>(&mut self, disk: &D, caller: u16, call: Call, reply: Reply, next: NextChange)
         requires ready { IsReadyIn self.old next }
         requires room { vec_len self.old.history < vec_capacity self.old.history }
-        ensures tables { (b : Rebuilt) (c : Change) → IsNext self.old.parts b next c → b.shape ≡ self.old.journal.shape → Rebuilds self.new.parts (acted b c) }
+        ensures tables { (held : List (List Piece)) (takings : List ℕ) (b : Rebuilt) (c : Change) → IsNext held takings self.old.parts b next c → b.shape ≡ self.old.journal.shape → Runs held [] takings self.new.parts (acted b c) }
         ensures items { self.new.history.items ≡ self.old.history.items ++ entry_of caller call reply (D.told disk.now).calls ∷ [] }
         ensures rest { self.new ≡ record self.old { parts = self.new.parts; history = self.new.history } }
     {
@@ -90,7 +92,7 @@ impl Inside {
     ) -> Reply
         requires ready { IsReadyIn self.old next }
         requires room { vec_len self.old.history < vec_capacity self.old.history }
-        ensures tables { (b : Rebuilt) (c : Change) → IsNext self.old.parts b next c → Rebuilds self.new.parts b }
+        ensures tables { (held : List (List Piece)) (takings : List ℕ) (b : Rebuilt) (c : Change) → IsNext held takings self.old.parts b next c → Runs held [] takings self.new.parts b }
         ensures items { self.new.history.items ≡ self.old.history.items ++ entry_of caller call (Reply.No Why.DiskFault) (D.told disk.now).calls ∷ [] }
         ensures rest { self.new ≡ record self.old { parts = self.new.parts; history = self.new.history } }
         ensures reply { result ≡ Reply.No Why.DiskFault }
@@ -222,6 +224,7 @@ impl Inside {
         requires ready { IsReadyIn self.old next }
         requires room { vec_len self.old.history < vec_capacity self.old.history }
         ensures goes { Goes 6 (D.told disk.old) (D.told disk.new) }
+        ensures calls { (D.told disk.new).calls ≤ (D.told disk.old).calls + plan_calls plan }
         ensures cause { IsFault result → HasRisen (D.told disk.old).faults (D.told disk.new).faults }
         ensures items { self.new.history.items ≡ self.old.history.items ++ entry_of caller call result (D.told disk.new).calls ∷ [] }
         ensures tapes { self.new.tapes ≡ self.old.tapes }

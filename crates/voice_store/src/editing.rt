@@ -12,9 +12,10 @@ ghost use Rattle.voice_model.specs.Replay.{Rebuilt, acted};
 ghost use Rattle.voice_model.specs.declared.Change.{Change};
 ghost use Rattle.edits.specs.Shown.{ShowsState, IsMade};
 ghost use Rattle.next_changes.specs.Next.{IsNext};
-ghost use Rattle.voice_store.specs.Stood.{Stood};
+ghost use Rattle.voice_store.specs.Stood.{Stood, last_of, tapes_of};
 ghost use Rattle.voice_store.specs.Ways.{IsWay};
 ghost use Rattle.voice_store.specs.Trying.{IsPlan, IsReadyIn};
+ghost use Rattle.voice_store.specs.DeviceCalls.{change_calls};
 ghost use Rattle.voice_store.specs.Facts.{Goes, HasRopes, IsFault, entry_of, is_edit};
 ghost use Rattle.voice_store.specs.Keeping.{MakesRope, HasWay};
 
@@ -52,7 +53,7 @@ impl Inside {
     /// How a change that is ready gets into the journal, where that is not full.
     pub(crate) fn plan(&self, next: &NextChange, way: Way) -> Result<Plan, NoMemory>
         requires { IsReadyIn self.now next.now }
-        ensures { (b : Rebuilt) (c : Change) (s : State) (effect : Effect Tagged) → IsNext self.now.parts b next.now c → b.shape ≡ self.now.journal.shape → IsWay s effect way → is_journal_full s effect ≡ false → IfOk result (IsPlan self.now.journal s effect (acted b c)) }
+        ensures { (held : List (List Piece)) (takings : List ℕ) (b : Rebuilt) (c : Change) (s : State) (effect : Effect Tagged) → IsNext held takings self.now.parts b next.now c → b.shape ≡ self.now.journal.shape → IsWay s effect way → is_journal_full s effect ≡ false → IfOk result (IsPlan self.now.journal s effect (acted b c)) }
     {
         let Way::Switch = way else {
             return Ok(Plan::Append);
@@ -89,6 +90,7 @@ impl Inside {
         requires way { (first : State) × (t0 : ℕ) × HasWay first t0 (D.told disk.old) self.old call pieces way }
         requires room { vec_len self.old.history < vec_capacity self.old.history }
         ensures goes { Goes 6 (D.told disk.old) (D.told disk.new) }
+        ensures calls { (first : State) (t0 : ℕ) → HasWay first t0 (D.told disk.old) self.old call pieces way → (D.told disk.new).calls ≤ (D.told disk.old).calls + change_calls (last_of first self.old) (tapes_of self.old) call }
         ensures cause { IfOk result (λ reply. IsFault reply → HasRisen (D.told disk.old).faults (D.told disk.new).faults) }
         ensures items { IfOk result (λ reply. self.new.history.items ≡ self.old.history.items ++ entry_of caller call reply (D.told disk.new).calls ∷ []) }
         ensures err { OnErr result (self.new.history.items ≡ self.old.history.items) }
@@ -120,6 +122,7 @@ impl Inside {
         requires makes { (first : State) × (t0 : ℕ) × MakesRope first t0 (D.told disk.old) self.old call pieces }
         requires room { vec_len self.old.history < vec_capacity self.old.history }
         ensures goes { Goes 6 (D.told disk.old) (D.told disk.new) }
+        ensures calls { (first : State) (t0 : ℕ) → MakesRope first t0 (D.told disk.old) self.old call pieces → (D.told disk.new).calls ≤ (D.told disk.old).calls + change_calls (last_of first self.old) (tapes_of self.old) call }
         ensures cause { IfOk result (λ reply. IsFault reply → HasRisen (D.told disk.old).faults (D.told disk.new).faults) }
         ensures items { IfOk result (λ reply. self.new.history.items ≡ self.old.history.items ++ entry_of caller call reply (D.told disk.new).calls ∷ []) }
         ensures err { OnErr result (self.new.history.items ≡ self.old.history.items) }
@@ -152,6 +155,7 @@ impl Inside {
         requires ropes { HasRopes call }
         requires room { vec_len self.old.history < vec_capacity self.old.history }
         ensures goes { Goes 6 (D.told disk.old) (D.told disk.new) }
+        ensures calls { (first : State) (t0 : ℕ) → Stood first t0 (D.told disk.old) self.old → (D.told disk.new).calls ≤ (D.told disk.old).calls + change_calls (last_of first self.old) (tapes_of self.old) call }
         ensures cause { IfOk result (λ reply. IsFault reply → HasRisen (D.told disk.old).faults (D.told disk.new).faults) }
         ensures items { IfOk result (λ reply. self.new.history.items ≡ self.old.history.items ++ entry_of caller call reply (D.told disk.new).calls ∷ []) }
         ensures err { OnErr result (self.new.history.items ≡ self.old.history.items) }

@@ -1,14 +1,17 @@
 //! The landing of a change in doubt.
 
-ghost use Rattle.std.specs.Prelude.{◌≡◌, ◌+◌, ◌≤◌, ◌<◌, ℕ, None, true, false, IsTrue, vec_len, vec_capacity};
+ghost use Rattle.std.specs.Prelude.{◌≡◌, ◌+◌, ◌≤◌, ◌<◌, ℕ, List, [], None, true, false, IsTrue, vec_len, vec_capacity};
+ghost use Rattle.voice_units.specs.declared.Piece.{Piece};
 ghost use Rattle.voice_model.specs.State.{State};
 ghost use Rattle.voice_model.specs.Replay.{Rebuilt, acted};
 ghost use Rattle.voice_model.specs.declared.Change.{Change};
 ghost use Rattle.voice_outside.specs.Counters.{HasRisen};
-ghost use Rattle.recovery.specs.Shown.{Rebuilds};
+ghost use Rattle.running_tables.specs.Running.{Runs};
 ghost use Rattle.next_changes.specs.Next.{IsNext};
-ghost use Rattle.voice_store.specs.Stood.{Stood, in_form};
+ghost use Rattle.voice_model.specs.Step.{landed};
+ghost use Rattle.voice_store.specs.Stood.{Stood, in_form, last_of};
 ghost use Rattle.voice_store.specs.Trying.{IsReadyIn};
+ghost use Rattle.voice_store.specs.DeviceCalls.{landing_calls};
 ghost use Rattle.voice_store.specs.Facts.{AddsLanding, Goes};
 
 use crate::entering::enter;
@@ -22,7 +25,7 @@ impl Inside {
     // Does the change that has landed.
     fn take_in(&mut self, doubted: Doubted)
         requires { IsReadyIn self.old doubted.next }
-        ensures tables { (b : Rebuilt) (c : Change) → IsNext self.old.parts b doubted.next c → b.shape ≡ self.old.journal.shape → Rebuilds (in_form b.form self.new.parts) (acted b c) }
+        ensures tables { (held : List (List Piece)) (takings : List ℕ) (b : Rebuilt) (c : Change) → IsNext held takings self.old.parts b doubted.next c → b.shape ≡ self.old.journal.shape → Runs held [] takings (in_form b.form self.new.parts) (acted b c) }
         ensures form { self.new.parts.form ≡ doubted.form }
         ensures rest { self.new ≡ record self.old { parts = self.new.parts } }
     {
@@ -36,6 +39,8 @@ impl Inside {
         requires stood { (first : State) × (t0 : ℕ) × Stood first t0 (D.told disk.old) self.old }
         requires room { vec_len self.old.history < vec_capacity self.old.history }
         ensures goes { Goes 2 (D.told disk.old) (D.told disk.new) }
+        ensures calls { (first : State) (t0 : ℕ) → Stood first t0 (D.told disk.old) self.old → (D.told disk.new).calls ≤ (D.told disk.old).calls + landing_calls (last_of first self.old) }
+        ensures landed { result ≡ true → (first : State) (t0 : ℕ) → Stood first t0 (D.told disk.old) self.old → last_of first self.new ≡ landed (last_of first self.old) }
         ensures cause { result ≡ false → HasRisen (D.told disk.old).faults (D.told disk.new).faults }
         ensures sure { result ≡ true → self.new.doubt ≡ None }
         ensures failed { result ≡ false → self.new.history.items ≡ self.old.history.items }

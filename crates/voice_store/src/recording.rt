@@ -16,7 +16,8 @@ ghost use Rattle.next_ropes.specs.Ready.{next_change};
 ghost use Rattle.next_ropes.specs.declared.NextRope.{NextRope as RopeValue};
 ghost use Rattle.voice_store.specs.Stood.{Stood, last_of, tapes_of};
 ghost use Rattle.voice_store.specs.Trying.{IsPlan};
-ghost use Rattle.voice_store.specs.Facts.{Goes, IsFault, entry_of};
+ghost use Rattle.voice_store.specs.DeviceCalls.{change_calls};
+ghost use Rattle.voice_store.specs.Facts.{GoesOn, IsFault, entry_of};
 ghost use Rattle.voice_store.specs.Keeping.{HasRoom, HoldsRecording, MakesRecording, recorded_by, refused_by};
 
 use crate::committing::Plan;
@@ -98,7 +99,7 @@ impl Inside {
     ) -> Result<(), Failed>
         requires holds { (first : State) × (t0 : ℕ) × HoldsRecording first t0 (D.told disk.old) self.now take next.now }
         requires block { length last.old ≡ self.now.journal.shape.block }
-        ensures made { MakesAtMost take.len (D.told disk.old) (D.told disk.new) result }
+        ensures made { MakesAtMost (blocks_for self.now.journal.shape.block take.len) (D.told disk.old) (D.told disk.new) result }
         ensures moments { IsTrue (D.told disk.old).honest → IsLater (D.told disk.old) (D.told disk.new) }
         ensures content { IsTrue (D.told disk.old).honest → WroteAt self.now.journal.shape next.now.addresses.items (D.told disk.old) (D.told disk.new) }
         ensures written { IsTrue (D.told disk.old).honest → OnOk result (HasBytes (D.told disk.new).bytes self.now.journal.shape next.now.addresses.items (taken (tapes_of self.now) take)) }
@@ -124,7 +125,8 @@ impl Inside {
         requires holds { (rope : RopeValue) × (next ≡ NextChange.Rope rope) × (first : State) × (t0 : ℕ) × (h : HoldsRecording first t0 (D.told disk.old) self.old take rope) × IsPlan self.old.journal (last_of first self.old) (recorded_by (last_of first self.old) (tapes_of self.old) take) (acted h.makes.stood.b (next_change h.makes.stood.b.form rope)) plan }
         requires block { length last.old ≡ self.old.journal.shape.block }
         requires room { vec_len self.old.history < vec_capacity self.old.history }
-        ensures goes { Goes (6 + take.len) (D.told disk.old) (D.told disk.new) }
+        ensures goes { GoesOn (D.told disk.old) (D.told disk.new) }
+        ensures calls { (rope : RopeValue) → next ≡ NextChange.Rope rope → (first : State) (t0 : ℕ) (h : HoldsRecording first t0 (D.told disk.old) self.old take rope) → IsPlan self.old.journal (last_of first self.old) (recorded_by (last_of first self.old) (tapes_of self.old) take) (acted h.makes.stood.b (next_change h.makes.stood.b.form rope)) plan → (D.told disk.new).calls ≤ (D.told disk.old).calls + change_calls (last_of first self.old) (tapes_of self.old) (Call.Record take) }
         ensures cause { IsFault result → HasRisen (D.told disk.old).faults (D.told disk.new).faults }
         ensures items { self.new.history.items ≡ self.old.history.items ++ entry_of caller (Call.Record take) result (D.told disk.new).calls ∷ [] }
         ensures tapes { self.new.tapes ≡ self.old.tapes }
@@ -154,7 +156,8 @@ impl Inside {
     ) -> Result<Reply, NoMemory>
         requires way { (first : State) × (t0 : ℕ) × HasRoom first t0 (D.told disk.old) self.old take way }
         requires room { vec_len self.old.history < vec_capacity self.old.history }
-        ensures goes { Goes (6 + take.len) (D.told disk.old) (D.told disk.new) }
+        ensures goes { GoesOn (D.told disk.old) (D.told disk.new) }
+        ensures calls { (first : State) (t0 : ℕ) → HasRoom first t0 (D.told disk.old) self.old take way → (D.told disk.new).calls ≤ (D.told disk.old).calls + change_calls (last_of first self.old) (tapes_of self.old) (Call.Record take) }
         ensures cause { IfOk result (λ reply. IsFault reply → HasRisen (D.told disk.old).faults (D.told disk.new).faults) }
         ensures items { IfOk result (λ reply. self.new.history.items ≡ self.old.history.items ++ entry_of caller (Call.Record take) reply (D.told disk.new).calls ∷ []) }
         ensures err { OnErr result (self.new.history.items ≡ self.old.history.items) }
@@ -182,7 +185,8 @@ impl Inside {
     ) -> Result<Reply, NoMemory>
         requires makes { (first : State) × (t0 : ℕ) × MakesRecording first t0 (D.told disk.old) self.old take }
         requires room { vec_len self.old.history < vec_capacity self.old.history }
-        ensures goes { Goes (6 + take.len) (D.told disk.old) (D.told disk.new) }
+        ensures goes { GoesOn (D.told disk.old) (D.told disk.new) }
+        ensures calls { (first : State) (t0 : ℕ) → MakesRecording first t0 (D.told disk.old) self.old take → (D.told disk.new).calls ≤ (D.told disk.old).calls + change_calls (last_of first self.old) (tapes_of self.old) (Call.Record take) }
         ensures cause { IfOk result (λ reply. IsFault reply → HasRisen (D.told disk.old).faults (D.told disk.new).faults) }
         ensures items { IfOk result (λ reply. self.new.history.items ≡ self.old.history.items ++ entry_of caller (Call.Record take) reply (D.told disk.new).calls ∷ []) }
         ensures err { OnErr result (self.new.history.items ≡ self.old.history.items) }
@@ -220,7 +224,8 @@ impl Inside {
         requires sure { self.old.doubt ≡ None }
         requires take { HasTake (tapes_of self.old) take }
         requires room { vec_len self.old.history < vec_capacity self.old.history }
-        ensures goes { Goes (6 + take.len) (D.told disk.old) (D.told disk.new) }
+        ensures goes { GoesOn (D.told disk.old) (D.told disk.new) }
+        ensures calls { (first : State) (t0 : ℕ) → Stood first t0 (D.told disk.old) self.old → (D.told disk.new).calls ≤ (D.told disk.old).calls + change_calls (last_of first self.old) (tapes_of self.old) (Call.Record take) }
         ensures cause { IfOk result (λ reply. IsFault reply → HasRisen (D.told disk.old).faults (D.told disk.new).faults) }
         ensures items { IfOk result (λ reply. self.new.history.items ≡ self.old.history.items ++ entry_of caller (Call.Record take) reply (D.told disk.new).calls ∷ []) }
         ensures err { OnErr result (self.new.history.items ≡ self.old.history.items) }

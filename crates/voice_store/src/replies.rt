@@ -1,6 +1,6 @@
 //! Replies twice.
 
-ghost use Rattle.std.specs.Prelude.{◌≡◌, IfOk};
+ghost use Rattle.std.specs.Prelude.{◌≡◌, IsOk, IfOk};
 
 use std::alloc::Global;
 use voice_model::{PeakList, Reply, RopeList, TalkList};
@@ -10,6 +10,7 @@ use voice_units::NoMemory;
 pub(crate) fn twice(alloc: Global, reply: Reply) -> Result<(Reply, Reply), NoMemory>
     ensures first { IfOk result (λ both. both.0 ≡ reply) }
     ensures second { IfOk result (λ both. both.1 ≡ reply) }
+    ensures spare { reply ≡ Reply.Done → IsOk result }
 {
     let again = match &reply {
         Reply::Rope(rope, len) => Reply::Rope(*rope, *len),

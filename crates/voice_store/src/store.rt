@@ -14,7 +14,10 @@ ghost use Rattle.voice_model.specs.Image.{Reading, reading, opened_from};
 ghost use Rattle.voice_store.specs.Shown.{Keeps, HasRoomFor, history_of, tapes_in, state_of};
 ghost use Rattle.voice_store.specs.Stood.{ShowsState};
 ghost use Rattle.listening.specs.Looks.{OnlyLooked};
-ghost use Rattle.voice_store.specs.Facts.{Adds, AddsLanding, Goes, GoesOn, IsFault, TakesAreIn, HasRopes, hears, only_tells, most_reads, most_calls};
+ghost use Rattle.voice_store.specs.Facts.{Adds, AddsLanding, Goes, GoesOn, IsFault, TakesAreIn, HasRopes, hears, only_tells, most_reads};
+ghost use Rattle.voice_store.specs.DeviceCalls.{landing_calls, most_calls};
+ghost use Rattle.voice_store.specs.Spare.{FitsBehindOthers};
+ghost use Rattle.row_calls.specs.Asked.{takes_no_memory};
 ghost use Rattle.built_calls.specs.Built.{is_built};
 
 use crate::inside::Inside;
@@ -102,11 +105,13 @@ impl<D: Disk> Store<D> {
         ensures state { (first : State) → Keeps D.told first self.old → Keeps D.told first self.new }
         // A call that the tables alone answer takes no memory where there is room for its entry and one more.
         ensures spare { IsTrue (only_tells call) → HasRoomFor 2 self.old → IsOk result }
+        // Nor does a Forget or an Advance, where nothing is in doubt and its change fits behind the other records.
+        ensures behind { (first : State) → Keeps D.told first self.old → IsTrue (takes_no_memory call) → HasRoomFor 2 self.old → (state_of first self.old).doubt ≡ None → FitsBehindOthers (state_of first self.old) (tapes_in self.old) call → IsOk result }
         ensures cause { IfOk result (λ reply. IsFault reply → HasRisen (D.told self.old.disk).faults (D.told self.new.disk).faults) }
         ensures goes { GoesOn (D.told self.old.disk) (D.told self.new.disk) }
-        ensures calls { (first : State) → Keeps D.told first self.old → (D.told self.new.disk).calls ≤ (D.told self.old.disk).calls + most_calls (state_of first self.old) call }
+        ensures calls { (first : State) → Keeps D.told first self.old → (D.told self.new.disk).calls ≤ (D.told self.old.disk).calls + most_calls (state_of first self.old) (tapes_in self.old) call }
         // A call for which there is no memory makes no device call but those of a landing, and reads.
-        ensures few { (first : State) → Keeps D.told first self.old → OnErr result ((D.told self.new.disk).calls ≤ (D.told self.old.disk).calls + (2 + most_reads (state_of first self.old) call)) }
+        ensures few { (first : State) → Keeps D.told first self.old → OnErr result ((D.told self.new.disk).calls ≤ (D.told self.old.disk).calls + (landing_calls (state_of first self.old) + most_reads (state_of first self.old) call)) }
         ensures still { (first : State) → Keeps D.told first self.old → (state_of first self.old).doubt ≡ None → OnErr result ((history_of self.new ≡ history_of self.old) × (hears call ≡ false → self.new.disk ≡ self.old.disk)) }
         // A call that hears a rope changes no byte, whatever its answer.
         ensures looks { IsTrue (hears call) → IsTrue (D.told self.old.disk).honest → OnlyLooked (D.told self.old.disk) (D.told self.new.disk) }

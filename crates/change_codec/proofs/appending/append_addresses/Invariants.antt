@@ -1,6 +1,6 @@
 use Rattle.std.proofs.Common.{◌≤◌}
 use Rattle.std.specs.Vec.{vec_capacity}
-use Rattle.voice_model.specs.Spelling.{number_bytes}
+use Rattle.disk_areas.specs.Numbers.{number_bytes}
 use Rattle.change_codec.specs.Widths.{bytes_of}
 use Rattle.change_codec.proofs.Appended.{AreAppended}
 use Rattle.change_codec.proofs.appending.append_addresses.Given as goal

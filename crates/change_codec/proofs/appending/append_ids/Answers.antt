@@ -1,4 +1,4 @@
-use Rattle.voice_model.specs.Spelling.{number_bytes}
+use Rattle.disk_areas.specs.Numbers.{number_bytes}
 use Rattle.voice_model.proofs.ChangesOfEffects.{number_length}
 use Rattle.change_codec.proofs.Appended.{room_of_width}
 use Rattle.change_codec.proofs.appending.append_ids.Goals as goal

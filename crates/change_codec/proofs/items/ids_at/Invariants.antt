@@ -1,5 +1,5 @@
 use Rattle.std.proofs.Common.{◌≤◌, ◌^◌, length}
-use Rattle.voice_model.specs.Spelling.{number_at}
+use Rattle.disk_areas.specs.Numbers.{number_at}
 use Rattle.change_codec.specs.Refused.{number, behind, next_id}
 use Rattle.change_codec.proofs.Reading.{IsRead}
 use Rattle.change_codec.proofs.items.ids_at.Given as goal

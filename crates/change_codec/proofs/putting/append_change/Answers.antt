@@ -1,5 +1,6 @@
 use Rattle.std.proofs.Common.{ap, sym, ◌∙◌, ◌++◌}
-use Rattle.voice_model.specs.Spelling.{spelling, number_bytes, recorded_bytes, file_bytes, pieces_bytes}
+use Rattle.disk_areas.specs.Numbers.{number_bytes}
+use Rattle.voice_model.specs.Spelling.{spelling, recorded_bytes, file_bytes, pieces_bytes}
 use Rattle.change_codec.proofs.Joined.{joined2, joined3, joined4, joined5}
 use Rattle.change_codec.proofs.putting.append_change.Goals as goal
 

@@ -1,6 +1,7 @@
 use Rattle.std.proofs.Common.{length}
 use Rattle.std.specs.Prelude.{flat_map}
-use Rattle.voice_model.specs.Spelling.{number_bytes, pair_bytes}
+use Rattle.disk_areas.specs.Numbers.{number_bytes}
+use Rattle.voice_model.specs.Spelling.{pair_bytes}
 use Rattle.change_codec.specs.Widths.{bytes_of}
 use Rattle.change_codec.proofs.Joined.{joined3}
 use Rattle.change_codec.proofs.Sizes.{addresses_fit}

@@ -1,31 +1,36 @@
-use Rattle.std.proofs.Common.{◌≡◌, Ok, true, ◌∙◌, ap, subst}
-use Rattle.std.specs.Prelude.{is_some}
-use Rattle.voice_model.specs.Replay.{is_legal, brings, acted}
-use Rattle.voice_model.specs.declared.changes.Change.{Change}
-use Rattle.recovery.specs.Shown.{Rebuilds}
-use Rattle.next_changes.proofs.Copied.{alike_rebuilds, same_change}
+use Rattle.std.proofs.Common.{[], ◌∙◌, sym, ap, subst}
+use Rattle.voice_units.specs.declared.shapes.Shape.{Shape}
+use Rattle.recovery.specs.Shown.{IsOrderly}
+use Rattle.recovery.proofs.Rebuilding.{orderly_rebuilt}
+use Rattle.next_ropes.proofs.Performed.{alike_shows}
+use Rattle.running_tables.proofs.Taken.{reshown}
+use Rattle.next_changes.proofs.Copied.{with_room, with_rows, other_done}
 use Rattle.next_changes.proofs.copying.after_other.Goals as goal
 
-pub apply-requires-clause-parts : goal.apply-requires-clause-parts
-apply-requires-clause-parts c = record {
-  what = c.requires.0;
-  shows = alike_rebuilds c.args.parts.now c.in_ok-after.after c.requires.0 c.in_ok-after.ensures.alike c.requires.2.rebuilds;
-  in_shape = c.requires.3;
-}
-
-pub apply-requires-clause-kind : goal.apply-requires-clause-kind
-apply-requires-clause-kind c =
-    let h = c.requires.2 in
-    let is : c.in-Ok.change ≡ c.requires.1 = same_change c.deref.result.now c.requires.1 c.in-Ok.change c.in-Ok.ensures.ok (c.deref.ensures.value ∙ h.ready.payload) h.ready.grammar in
-    ap (λ (x : Change). is_some (brings x)) is ∙ h.kind
-
-pub apply-requires-clause-grammar : goal.apply-requires-clause-grammar
-apply-requires-clause-grammar c = c.in-Ok.ensures.ok.grammar
+pub perform-requires : goal.perform-requires
+perform-requires c =
+    let held = c.requires.0 in
+    let b = c.requires.2 in
+    let h = c.requires.4 in
+    let parts = c.args.parts.now in
+    let copy = c.in_ok-after.after in (
+      held,
+      b.kept,
+      c.requires.3,
+      with_rows held copy c.reserve.new.self b.kept c.in_ok-reserve.ensures.rows (alike_shows held b.kept parts copy c.in_ok-after.ensures.alike h.runs.kept),
+      with_room parts.interests.spare c.reserve.new.self.spare b.kept c.args.ready.now c.requires.3 c.in_ok-reserve.ensures.room h.ready,
+    )
 
 pub returns : goal.returns
-returns c = λ b change h same.
-    let rebuilds = alike_rebuilds c.args.parts.now c.in_ok-after.after b c.in_ok-after.ensures.alike h.rebuilds in
-    let is : c.in-Ok.change ≡ change = same_change c.deref.result.now change c.in-Ok.change c.in-Ok.ensures.ok (c.deref.ensures.value ∙ h.ready.payload) h.ready.grammar in
-    let legal : c.in_ok-_done._done ≡ is_legal b c.in-Ok.change = c.in_ok-_done.ensures.legal b rebuilds same in
-    let yes : c.apply.result ≡ Ok true = c.in_ok-_done.was ∙ ap Ok (legal ∙ ap (is_legal b) is ∙ h.legal) in
-    subst (λ (x : Change). Rebuilds c.apply.new.self (acted b x)) is (c.apply.ensures.done b rebuilds same yes)
+returns c = λ held takings b change h same.
+    let parts = c.args.parts.now in
+    let alike = c.in_ok-after.ensures.alike in
+    let copy = record c.in_ok-after.after { interests = c.reserve.new.self } in
+    let shows = with_rows held c.in_ok-after.after c.reserve.new.self b.kept c.in_ok-reserve.ensures.rows (alike_shows held b.kept parts c.in_ok-after.after alike h.runs.kept) in
+    let runs = reshown held [] takings parts copy b h.runs shows alike.form alike.holders in
+    let ready = with_room parts.interests.spare c.reserve.new.self.spare b.kept c.args.ready.now change c.in_ok-reserve.ensures.room h.ready in
+    let ordered = subst (λ form. IsOrderly form b.kept) (sym (alike.form ∙ h.runs.in_form)) (orderly_rebuilt b h.runs.valid) in
+    let graces = ap (λ (s : Shape). s.graces) same in
+    let done = c.perform.ensures in
+    other_done held takings c.reserve.new.self.spare copy c.perform.new.parts b change c.args.ready.now runs h.legal ready
+    (done.shows held b.kept change shows ordered graces ready) done.stay (done.blocks held b.kept change shows ordered graces ready) done.size done.form

@@ -1,4 +1,4 @@
-use Rattle.std.proofs.Common.{◌≡◌, ℕ, Bool, true, false, cond, Some, None, refl, sym, ◌∙◌, ap, subst}
+use Rattle.std.proofs.Common.{◌≡◌, ℕ, Bool, true, false, cond, Some, None, [], refl, sym, ◌∙◌, ap, subst}
 use Rattle.std.specs.Prelude.{nat_lt, Option}
 use Rattle.voice_units.specs.Spots.{Spot}
 use Rattle.voice_model.specs.State.{Durable}
@@ -21,11 +21,11 @@ pub returns : goal.returns
 returns c =
     let b = c.requires.what in
     let parts = c.args.parts.now in
-    let may = subst (λ (o : Option ReadyChange). MayBeReady parts.interests.spare b.kept o (later_change parts.moment 60)) c.in-Some.is (c.in-Ok.ensures parts.interests.spare b.kept) in
+    let may = subst (λ (o : Option ReadyChange). MayBeReady parts.interests.spare b.kept o (later_change parts.moment 60)) c.in-Some.is (c.ready_advance.ensures parts.interests.spare b.kept) in
     let later = is_later parts.interests.spare parts.moment 60 b.kept c.in-Some.ready may in
     record {
       b = b;
       c = changes.Advanced 60;
-      next = other_next parts b c.in-Some.ready (changes.Advanced 60) c.requires.shows (ap (λ (n : ℕ). nat_lt n 60) (sym c.requires.shows.kept.moment) ∙ later.0) later.1;
+      next = other_next [] [] parts b c.in-Some.ready (changes.Advanced 60) c.requires.runs (ap (λ (n : ℕ). nat_lt n 60) (sym c.requires.runs.kept.moment) ∙ later.0) later.1;
       in_shape = c.requires.in_shape;
     }

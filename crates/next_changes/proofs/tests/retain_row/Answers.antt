@@ -1,10 +1,8 @@
-use Rattle.std.proofs.Common.{◌≡◌, Bool, true, [], Some, None, not, ◌&&◌, sym, ◌∙◌, ap, subst}
+use Rattle.std.proofs.Common.{◌≡◌, Bool, true, [], Some, None, not, ◌&&◌, sym, ◌∙◌, ap}
 use Rattle.std.specs.Prelude.{is_some}
 use Rattle.voice_model.specs.State.{is_live, row_at}
 use Rattle.voice_model.specs.declared.changes.Change.TheVariants as changes
-use Rattle.voice_blocks.specs.Holders.{BlocksView}
-use Rattle.recovery.specs.Shown.{ShowsPlaces}
-use Rattle.recovery.proofs.Rebuilding.{rebuilds_still}
+use Rattle.running_tables.proofs.Taken.{reshown}
 use Rattle.recovery.proofs.Showing.{live_shown}
 use Rattle.next_changes.proofs.Given.{other_next}
 use Rattle.next_changes.proofs.tests.retain_row.Goals as goal
@@ -12,10 +10,10 @@ use Rattle.next_changes.proofs.tests.retain_row.Goals as goal
 pub returns-in_default-ready_retain : goal.returns-in_default-ready_retain
 returns-in_default-ready_retain c =
     let r = c.requires.shown.what in
-    let h = c.requires.shown.shows in
+    let h = c.requires.shown.runs in
     record {
       what = r;
-      shows = rebuilds_still c.args.parts.now c.ready_retain.new.parts r h (c.ready_retain.ensures.same [] r.kept h.kept) c.ready_retain.ensures.form (subst (λ (b : BlocksView). ShowsPlaces b.holders r.shape.blocks r.places) (sym c.ready_retain.ensures.blocks) h.places);
+      runs = reshown [] [] [] c.args.parts.now c.ready_retain.new.parts r h (c.ready_retain.ensures.same [] r.kept h.kept) c.ready_retain.ensures.form (ap (λ blocks. blocks.holders) c.ready_retain.ensures.blocks);
       in_shape = c.requires.shown.in_shape;
     }
 
@@ -25,14 +23,14 @@ returns c =
     let old = c.args.parts.now in
     let new = c.ready_retain.new.parts in
     let r = c.requires.shown.what in
-    let h = c.requires.shown.shows in
+    let h = c.requires.shown.runs in
     let live = live_shown [] r.kept old.ropes old.interests.rows old.moment old.next row.rope (Some c.in-Some.field-0) h.kept c.in-Some.ensures in
     let fresh : row_at r.rows row.class row.key ≡ None = ap (λ rows. row_at rows row.class row.key) (sym h.kept.rows) ∙ sym c.in-None.ensures in
-    let rebuilds = rebuilds_still old new r h (c.ready_retain.ensures.same [] r.kept h.kept) c.ready_retain.ensures.form (subst (λ (b : BlocksView). ShowsPlaces b.holders r.shape.blocks r.places) (sym c.ready_retain.ensures.blocks) h.places) in
+    let runs = reshown [] [] [] old new r h (c.ready_retain.ensures.same [] r.kept h.kept) c.ready_retain.ensures.form (ap (λ blocks. blocks.holders) c.ready_retain.ensures.blocks) in
     let legal : (is_live r.ropes row.rope && not (is_some (row_at r.rows row.class row.key))) ≡ true = ap (λ (x : Bool). x && not (is_some (row_at r.rows row.class row.key))) live ∙ ap (λ o. not (is_some o)) fresh in
     record {
       b = r;
       c = changes.Retained row.class row.key row.rope row.note;
-      next = other_next new r c.in-Ok.ready (changes.Retained row.class row.key row.rope row.note) rebuilds legal (c.in-Ok.ensures.ready [] r.kept h.kept live fresh);
+      next = other_next [] [] new r c.in-Ok.ready (changes.Retained row.class row.key row.rope row.note) runs legal (c.in-Ok.ensures.ready [] r.kept h.kept live fresh);
       in_shape = c.requires.shown.in_shape;
     }

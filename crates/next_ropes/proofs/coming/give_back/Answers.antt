@@ -3,4 +3,4 @@ use Rattle.next_ropes.proofs.Dropped.{given_back}
 use Rattle.next_ropes.proofs.coming.give_back.Goals as goal
 
 pub returns : goal.returns
-returns c = λ b change h. given_back c.args.parts.now _ b c.args.next change h h.shows refl c.drop_owner.ensures.holders
+returns c = λ held takings b change h. given_back held takings c.args.parts.now _ b c.args.next change h h.runs.kept refl c.drop_owner.ensures.holders

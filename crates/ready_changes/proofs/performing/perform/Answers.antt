@@ -71,14 +71,14 @@ returns-in-Sweep-clause-blocks c held d change h ordered graces ready used =
     let does = subst (λ act. Does c.args.parts.now.interests.spare d act change) c.in-Sweep.is ready.does in
     c.sweep.ensures.blocks held d h ordered graces does.gathered used
 
-pub returns-clause-shows : goal.returns-clause-shows
-returns-clause-shows c held d change h ordered graces ready =
+pub returns-in-Advance-clause-shows : goal.returns-in-Advance-clause-shows
+returns-in-Advance-clause-shows c held d change h ordered graces ready =
     let form = c.args.parts.now.form in
     let does = subst (λ act. Does c.args.parts.now.interests.spare d act change) c.in-Advance.is ready.does in
     subst (λ (x : Change). Shows held c.advance.new.self (after form d (brings x))) (sym does) (c.advance.ensures.shows held form d h)
 
-pub returns-clause-blocks : goal.returns-clause-blocks
-returns-clause-blocks c held d change h ordered graces ready used =
+pub returns-in-Advance-clause-blocks : goal.returns-in-Advance-clause-blocks
+returns-in-Advance-clause-blocks c held d change h ordered graces ready used =
     let old = c.args.parts.now in
     let new = c.advance.new.self in
     let shows = c.advance.ensures.shows held old.form d h in
@@ -92,7 +92,7 @@ returns-in-Retain-clause-rebuilds c r change h same legal ready =
     let old = c.args.parts.now in
     let ordered = orderly old r h in
     let graces = ap (λ (s : Shape). s.graces) same in
-    rebuilds_next old.interests.spare old c.come.new.parts r change c.args.ready h legal ready
+    rebuilds_next old.interests.spare old c.come.new.parts r change c.args.ready.now h legal ready
     (returns-in-Retain-clause-shows c [] r.kept change h.kept ordered graces ready)
     (returns-in-Retain-clause-blocks c [] r.kept change h.kept ordered graces ready)
     (ap (λ b. length b.holders) c.come.ensures.blocks) c.come.ensures.form
@@ -102,7 +102,7 @@ returns-in-Forget-clause-rebuilds c r change h same legal ready =
     let old = c.args.parts.now in
     let ordered = orderly old r h in
     let graces = ap (λ (s : Shape). s.graces) same in
-    rebuilds_next old.interests.spare old c.forget.new.self r change c.args.ready h legal ready
+    rebuilds_next old.interests.spare old c.forget.new.self r change c.args.ready.now h legal ready
     (returns-in-Forget-clause-shows c [] r.kept change h.kept ordered graces ready)
     (returns-in-Forget-clause-blocks c [] r.kept change h.kept ordered graces ready)
     (ap (λ b. length b.holders) c.forget.ensures.blocks) c.forget.ensures.form
@@ -112,7 +112,7 @@ returns-in-Count-clause-rebuilds c r change h same legal ready =
     let old = c.args.parts.now in
     let ordered = orderly old r h in
     let graces = ap (λ (s : Shape). s.graces) same in
-    rebuilds_next old.interests.spare old c.drop_gathered.new.self r change c.args.ready h legal ready
+    rebuilds_next old.interests.spare old c.drop_gathered.new.self r change c.args.ready.now h legal ready
     (returns-in-Count-clause-shows c [] r.kept change h.kept ordered graces ready)
     (returns-in-Count-clause-blocks c [] r.kept change h.kept ordered graces ready)
     (ap (λ b. length b.holders) c.drop_gathered.ensures.blocks) c.drop_gathered.ensures.form
@@ -122,17 +122,17 @@ returns-in-Sweep-clause-rebuilds c r change h same legal ready =
     let old = c.args.parts.now in
     let ordered = orderly old r h in
     let graces = ap (λ (s : Shape). s.graces) same in
-    rebuilds_next old.interests.spare old c.sweep.new.parts r change c.args.ready h legal ready
+    rebuilds_next old.interests.spare old c.sweep.new.parts r change c.args.ready.now h legal ready
     (returns-in-Sweep-clause-shows c [] r.kept change h.kept ordered graces ready)
     (returns-in-Sweep-clause-blocks c [] r.kept change h.kept ordered graces ready)
     (c.sweep.ensures.size) c.sweep.ensures.form
 
-pub returns-clause-rebuilds : goal.returns-clause-rebuilds
-returns-clause-rebuilds c r change h same legal ready =
+pub returns-in-Advance-clause-rebuilds : goal.returns-in-Advance-clause-rebuilds
+returns-in-Advance-clause-rebuilds c r change h same legal ready =
     let old = c.args.parts.now in
     let ordered = orderly old r h in
     let graces = ap (λ (s : Shape). s.graces) same in
-    rebuilds_next old.interests.spare old c.advance.new.self r change c.args.ready h legal ready
-    (returns-clause-shows c [] r.kept change h.kept ordered graces ready)
-    (returns-clause-blocks c [] r.kept change h.kept ordered graces ready)
+    rebuilds_next old.interests.spare old c.advance.new.self r change c.args.ready.now h legal ready
+    (returns-in-Advance-clause-shows c [] r.kept change h.kept ordered graces ready)
+    (returns-in-Advance-clause-blocks c [] r.kept change h.kept ordered graces ready)
     (ap (λ b. length b.holders) c.advance.ensures.blocks) c.advance.ensures.form

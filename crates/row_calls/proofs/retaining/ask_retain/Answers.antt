@@ -1,10 +1,7 @@
 use Rattle.voice_model.specs.Changes.{base_size}
-use Rattle.std.proofs.Common.{ℕ, ◌+◌, [], refl, sym, ◌∙◌, ap, subst}
+use Rattle.std.proofs.Common.{ℕ, ◌+◌, [], refl, sym, ◌∙◌, ap}
 use Rattle.voice_model.specs.State.{row_at}
 use Rattle.voice_model.specs.State.Effect.{Retained}
-use Rattle.voice_blocks.specs.Holders.{BlocksView}
-use Rattle.recovery.specs.Shown.{ShowsPlaces}
-use Rattle.recovery.proofs.Rebuilding.{rebuilds_still}
 use Rattle.row_calls.specs.declared.outcomes.Growth.TheVariants.{By}
 use Rattle.row_calls.proofs.Given.{state_of, state_shown, rebuilt_shown, live_here, same_rows}
 use Rattle.row_calls.proofs.Comes.{may_come, retained_grammar}
@@ -12,64 +9,49 @@ use Rattle.row_calls.proofs.Grown.{grows_as}
 use Rattle.row_calls.proofs.retaining.ask_retain.Goals as goal
 
 pub returns-in-Some-clause-asked : goal.returns-in-Some-clause-asked
-returns-in-Some-clause-asked c = λ fill b s tapes g. sym (c.in-Some.ensures [] s tapes (state_shown fill c.args.parts.now b s g))
+returns-in-Some-clause-asked c = λ held fill b s tapes g. sym (c.in-Some.ensures held s tapes (state_shown held fill c.args.parts.now b s g))
 
 pub ready_retain-requires : goal.ready_retain-requires
 ready_retain-requires c =
     let row = c.args.row in
-    let b = c.requires.0 in
+    let held = c.requires.0 in
+    let b = c.requires.1 in
     record {
-      grammar = retained_grammar b row.class row.key row.rope row.note c.requires.1.valid c.size-growth.ensures.key c.size-growth.ensures.note
-          (may_come (state_of b) [] row.class row.key row.rope row.note (sym (c.in_default.ensures [] (state_of b) [] (rebuilt_shown c.args.parts.now b c.requires.1))));
+      grammar = retained_grammar b row.class row.key row.rope row.note c.requires.2.valid c.size-growth.ensures.key c.size-growth.ensures.note
+          (may_come (state_of b) [] row.class row.key row.rope row.note (sym (c.in_default.ensures held (state_of b) [] (rebuilt_shown held c.args.parts.now b c.requires.2))));
     }
 
 pub returns-clause-asked : goal.returns-clause-asked
-returns-clause-asked c = λ fill b s tapes g.
+returns-clause-asked c = λ held fill b s tapes g.
     let row = c.args.row in
     let parts = c.args.parts.now in
-    let free = sym (c.in_default.ensures [] s tapes (state_shown fill parts b s g)) in
+    let free = sym (c.in_default.ensures held s tapes (state_shown held fill parts b s g)) in
     let may = may_come s tapes row.class row.key row.rope row.note free in
     record {
       unrefused = free;
-      is_ready = c.in_ok-ready.ensures.ready [] b.kept g.shows.kept (live_here fill parts b s g row.rope may.live) (ap (λ rows. row_at rows row.class row.key) (same_rows fill parts b s g) ∙ may.fresh);
+      is_ready = c.in_ok-ready.ensures.ready held b.kept g.shows.kept (live_here held fill parts b s g row.rope may.live) (ap (λ rows. row_at rows row.class row.key) (same_rows held fill parts b s g) ∙ may.fresh);
       replied = refl;
       grows = grows_as s (Retained row) (By c.size-growth.result) (c.base_grows_by_rows.ensures.retained s.form s.form s.kept row ∙ ap (λ (n : ℕ). base_size s.form s.kept + n) (sym c.size-growth.ensures.size));
     }
 
-pub returns-clause-same : goal.returns-clause-same
-returns-clause-same c = λ b h.
-    let old = c.args.parts.now in
-    rebuilds_still old c.ready_retain.new.parts b h (c.ready_retain.ensures.same [] b.kept h.kept) c.ready_retain.ensures.form
-    (subst (λ (v : BlocksView). ShowsPlaces v.holders b.shape.blocks b.places) (sym c.ready_retain.ensures.blocks) h.places)
-
 pub returns-clause-moment : goal.returns-clause-moment
 returns-clause-moment c =
-    let b = c.requires.0 in
-    let h = c.requires.1 in
-    (c.ready_retain.ensures.same [] b.kept h.kept).moment ∙ sym h.kept.moment
+    let h = c.requires.2 in
+    (c.ready_retain.ensures.same c.requires.0 c.requires.1.kept h.kept).moment ∙ sym h.kept.moment
 
 pub returns-clause-next : goal.returns-clause-next
 returns-clause-next c =
-    let b = c.requires.0 in
-    let h = c.requires.1 in
-    (c.ready_retain.ensures.same [] b.kept h.kept).next ∙ sym h.kept.next
+    let h = c.requires.2 in
+    (c.ready_retain.ensures.same c.requires.0 c.requires.1.kept h.kept).next ∙ sym h.kept.next
 
 -- where memory wants
 
-pub returns-in_err-ready-clause-same : goal.returns-in_err-ready-clause-same
-returns-in_err-ready-clause-same c = λ b h.
-    let old = c.args.parts.now in
-    rebuilds_still old c.ready_retain.new.parts b h (c.ready_retain.ensures.same [] b.kept h.kept) c.ready_retain.ensures.form
-    (subst (λ (v : BlocksView). ShowsPlaces v.holders b.shape.blocks b.places) (sym c.ready_retain.ensures.blocks) h.places)
-
 pub returns-in_err-ready-clause-moment : goal.returns-in_err-ready-clause-moment
 returns-in_err-ready-clause-moment c =
-    let b = c.requires.0 in
-    let h = c.requires.1 in
-    (c.ready_retain.ensures.same [] b.kept h.kept).moment ∙ sym h.kept.moment
+    let h = c.requires.2 in
+    (c.ready_retain.ensures.same c.requires.0 c.requires.1.kept h.kept).moment ∙ sym h.kept.moment
 
 pub returns-in_err-ready-clause-next : goal.returns-in_err-ready-clause-next
 returns-in_err-ready-clause-next c =
-    let b = c.requires.0 in
-    let h = c.requires.1 in
-    (c.ready_retain.ensures.same [] b.kept h.kept).next ∙ sym h.kept.next
+    let h = c.requires.2 in
+    (c.ready_retain.ensures.same c.requires.0 c.requires.1.kept h.kept).next ∙ sym h.kept.next

@@ -4,6 +4,7 @@ use Rattle.running_tables.proofs.Free.{rope_blocks, counts_used, counts_free}
 use Rattle.running_tables.proofs.Quiet.{quiet, spelled}
 use Rattle.running_tables.proofs.Doubted.{doubted}
 use Rattle.running_tables.proofs.Recounted.{recounted}
+use Rattle.running_tables.proofs.Taken.{reshown, none_yet, taken, used_pledged, used_unpledged}
 use Rattle.running_tables.proofs.Steps.{played, released}
 use Rattle.running_tables.proofs.Grown.{grown}
 use Rattle.running_tables.proofs.Ended.{ended}
@@ -20,6 +21,11 @@ returns c = record {
   placed = rope_blocks;
   spelled = spelled;
   recounted = recounted;
+  reshown = reshown;
+  none_yet = none_yet;
+  taken = taken;
+  used_pledged = used_pledged;
+  used_unpledged = used_unpledged;
   played = played;
   released = released;
   grown = grown;

@@ -5,11 +5,11 @@ use Rattle.silence_scan.proofs.loudness.loud_sum.Goals as goal
 
 pub overflow_add-total : goal.overflow_add-total
 overflow_add-total c =
-    let sum : c.windows.total + c.from-total.result ≡ sum_by loud (take (c.windows.at + c.min-n.result) c.args.bytes.now) = more c.args.bytes.now c.windows.at c.min-n.result _ _ c.windows.invariant.1 (c.from-total.ensures ∙ (c.blocks_loud.ensures ∙ ranged c.args.bytes.now c.windows.at c.min-n.result)) in
-    record { fits = omega (arith, sum, below c.args.bytes.now (c.windows.at + c.min-n.result) c.requires) }
+    let sum : c.chunks.total + c.from-total.result ≡ sum_by loud (take (c.chunks.at + c.min-n.result) c.args.bytes.now) = more c.args.bytes.now c.chunks.at c.min-n.result _ _ c.chunks.invariant.1 (c.from-total.ensures ∙ (c.blocks_loud.ensures ∙ ranged c.args.bytes.now c.chunks.at c.min-n.result)) in
+    record { fits = omega (arith, sum, below c.args.bytes.now (c.chunks.at + c.min-n.result) c.requires) }
 
-pub windows-preserved : goal.windows-preserved
-windows-preserved c = (omega (arith, c.windows.invariant.0, c.min-n.ensures, c.windows-test.true), more c.args.bytes.now c.windows.at c.min-n.result _ _ c.windows.invariant.1 (c.from-total.ensures ∙ (c.blocks_loud.ensures ∙ ranged c.args.bytes.now c.windows.at c.min-n.result)))
+pub chunks-preserved : goal.chunks-preserved
+chunks-preserved c = (omega (arith, c.chunks.invariant.0, c.min-n.ensures, c.chunks-test.true), more c.args.bytes.now c.chunks.at c.min-n.result _ _ c.chunks.invariant.1 (c.from-total.ensures ∙ (c.blocks_loud.ensures ∙ ranged c.args.bytes.now c.chunks.at c.min-n.result)))
 
 pub overflow_add-total-in-ends : goal.overflow_add-total-in-ends
 overflow_add-total-in-ends c =

@@ -2,11 +2,11 @@ use Rattle.std.proofs.Common.{◌≡◌, ◌≤◌, ◌-◌, length, take, sum_b
 use Rattle.voice_model.specs.Talk.{loud}
 use Rattle.silence_scan.proofs.loudness.loud_sum.Given as goal
 
-abbrev pub invariant-windows : goal.invariant-windows
-invariant-windows l = (l.at ≤ length l.bytes) × (l.total ≡ sum_by loud (take l.at l.bytes))
+abbrev pub invariant-chunks : goal.invariant-chunks
+invariant-chunks l = (l.at ≤ length l.bytes) × (l.total ≡ sum_by loud (take l.at l.bytes))
 
-abbrev pub decreases-windows : goal.decreases-windows
-decreases-windows l = length l.bytes - l.at
+abbrev pub decreases-chunks : goal.decreases-chunks
+decreases-chunks l = length l.bytes - l.at
 
 abbrev pub invariant-ends : goal.invariant-ends
 invariant-ends l = (l.at ≤ length l.bytes) × (l.total ≡ sum_by loud (take l.at l.bytes))

@@ -1,5 +1,5 @@
 use Rattle.std.proofs.Common.{rules, ◌≡◌, ◌<◌, ℕ, length, ap, ◌∙◌, arith}
-use Rattle.voice_journal.specs.Image.{JournalReading}
+use Rattle.disk_areas.specs.Areas.{JournalReading}
 use Rattle.voice_journal.proofs.ShapesRead.{short_image}
 use Rattle.voice_journal.proofs.opening.read_shape.Goals as goal
 

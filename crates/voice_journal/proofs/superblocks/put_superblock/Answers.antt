@@ -1,7 +1,7 @@
 use Rattle.std.proofs.Common.{◌≡◌, ◌+◌, ◌++◌, length, Bool, true, false, cond, replicate, refl}
 use Rattle.std.specs.Prelude.{◌==◌}
 use Rattle.voice_units.specs.declared.shapes.Shape.{Shape}
-use Rattle.voice_journal.specs.Image.{superblock, magic, graces_by_class}
+use Rattle.disk_areas.specs.Areas.{superblock, magic, graces_by_class}
 use Rattle.voice_journal.proofs.Putting.{put_first, put_next}
 use Rattle.voice_journal.proofs.superblocks.put_superblock.Goals as goal
 

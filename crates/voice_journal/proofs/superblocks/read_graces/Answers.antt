@@ -1,8 +1,8 @@
 use Rattle.std.proofs.Common.{◌≡◌, ℕ, List, refl}
 use Rattle.std.proofs.lemmas.Bool.{ne_eqb}
 use Rattle.voice_units.specs.declared.shapes.Graces.{Graces}
-use Rattle.voice_journal.specs.Numbers.{number_at}
-use Rattle.voice_journal.specs.Image.{graces_in}
+use Rattle.disk_areas.specs.Numbers.{number_at}
+use Rattle.disk_areas.specs.Areas.{graces_in}
 use Rattle.voice_journal.proofs.superblocks.read_graces.Goals as goal
 
 abbrev graces_of : ℕ → ℕ → ℕ → ℕ → Graces

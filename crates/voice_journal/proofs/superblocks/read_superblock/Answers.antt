@@ -3,8 +3,8 @@ use Rattle.std.specs.Prelude.{bytes_eq, not, ◌==◌}
 use Rattle.std.specs.List.{list_all}
 use Rattle.voice_units.specs.Layout.{bytes_needed}
 use Rattle.voice_units.specs.Spots.{slice}
-use Rattle.voice_journal.specs.Numbers.{number_at}
-use Rattle.voice_journal.specs.Image.{JournalReading, magic, superblock_end}
+use Rattle.disk_areas.specs.Numbers.{number_at}
+use Rattle.disk_areas.specs.Areas.{JournalReading, magic, superblock_end}
 use Rattle.voice_journal.proofs.ShapesRead.{IsSpelled, bad_magic, bad_version, bad_shape, bad_rest, is_superblock}
 use Rattle.voice_journal.proofs.superblocks.read_superblock.Goals.{else-version-ne1-via-then-version-ne1+else-version-ne2, else-version-ne1-via-else-version-ne1}
 use Rattle.voice_journal.proofs.superblocks.read_superblock.Goals as goal

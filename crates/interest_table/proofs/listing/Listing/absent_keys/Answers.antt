@@ -2,14 +2,14 @@ use Rattle.std.proofs.Common.{◌∙◌, ◌+◌, ◌-◌, ◌++◌, length, map
 use Rattle.std.specs.Prelude.{nat_eq}
 use Rattle.indexmap.specs.IndexMap.{get}
 use Rattle.voice_model.specs.Changes.{is_unlisted, unlisted_keys}
-use Rattle.interest_table.specs.Inside.{kept, row_in, AllKept, first_keys}
-use Rattle.interest_table.proofs.Keys.{kept_run, run_first, run_within, rows_kept_all, drop_all, none_left}
-use Rattle.interest_table.proofs.Due.{each_kept}
+use Rattle.interest_table.specs.Inside.{kept, row_in, first_keys}
+use Rattle.interest_table.proofs.Keys.{kept_run, run_first, run_within, drop_all, none_left}
+use Rattle.interest_table.proofs.Census.{listed_kept, listed_alone}
 use Rattle.interest_table.proofs.listing.Listing.absent_keys.Goals as goal
 
 pub loop-run-init : goal.loop-run-init
 loop-run-init c = record {
-  keys = ap (λ keys. keys ++ first_keys (is_unlisted c.args.named.now.keys) (65535 - length keys) (map (kept (get nat_eq c.self.inside.rows)) c.self.inside.order.items)) c.new-keys.ensures.items;
+  keys = ap (λ keys. keys ++ first_keys (is_unlisted c.args.named.now.keys) (65535 - length keys) (map (kept (get nat_eq c.self.inside.rows)) c.self.inside.listed.items)) c.new-keys.ensures.items;
   most = omega (arith, ap length c.new-keys.ensures.items);
   within = omega arith;
 }
@@ -17,20 +17,20 @@ loop-run-init c = record {
 pub loop-run-preserved : goal.loop-run-preserved
 loop-run-preserved c =
     let at = get nat_eq c.self.inside.rows in
-    let ts = c.self.inside.order.items in
+    let ls = c.self.inside.listed.items in
     let run = c.in-Some.run'.now in
-    let all : AllKept at ts = each_kept at ts (λ s k. (c.self.invariant.listing.stands s k).0) in
+    let all = listed_kept at c.self.inside.order.items ls c.self.invariant.apart (λ s k. (c.self.invariant.listing.stands s k).0) in
     record {
-      keys = c.in_ok-push_absent.ensures.keys (kept_run at ts run c.loop-run.place all c.in-Some.ensures.values) (map (kept at) (drop (c.loop-run.place + length run) ts))
-          ∙ ap (λ l. c.loop-run.keys.items ++ first_keys (is_unlisted c.args.named.now.keys) (65535 - length c.loop-run.keys.items) l) (sym (run_first at ts run c.loop-run.place c.in-Some.ensures.values)) ∙ c.loop-run.invariant.keys;
+      keys = c.in_ok-push_absent.ensures.keys (kept_run at ls run c.loop-run.place all c.in-Some.ensures.values) (map (kept at) (drop (c.loop-run.place + length run) ls))
+          ∙ ap (λ l. c.loop-run.keys.items ++ first_keys (is_unlisted c.args.named.now.keys) (65535 - length c.loop-run.keys.items) l) (sym (run_first at ls run c.loop-run.place c.in-Some.ensures.values)) ∙ c.loop-run.invariant.keys;
       most = c.in_ok-push_absent.ensures.most;
-      within = run_within ts run (drop (c.loop-run.place + length run) ts) c.loop-run.place c.loop-run.invariant.within c.in-Some.ensures.values;
+      within = run_within ls run (drop (c.loop-run.place + length run) ls) c.loop-run.place c.loop-run.invariant.within c.in-Some.ensures.values;
     }
 
 pub returns : goal.returns
 returns c =
     let at = get nat_eq c.self.inside.rows in
-    let ts = c.self.inside.order.items in
-    none_left (is_unlisted c.args.named.now.keys) _ (map (kept at) (drop c.loop-run.place ts)) c.loop-run.keys.items _ (drop_all at ts c.loop-run.place c.in_default.ensures.none) c.loop-run.invariant.keys
-    ∙ ap (λ l. unlisted_keys l c.args.named.now.keys) (sym (rows_kept_all at ts))
+    let ls = c.self.inside.listed.items in
+    none_left (is_unlisted c.args.named.now.keys) _ (map (kept at) (drop c.loop-run.place ls)) c.loop-run.keys.items _ (drop_all at ls c.loop-run.place c.in_default.ensures.none) c.loop-run.invariant.keys
+    ∙ listed_alone c.args.named.now.keys at c.self.inside.order.items ls c.self.invariant.apart
     ∙ ap (λ l. unlisted_keys (map row_in l.entries) c.args.named.now.keys) c.self.view_is

@@ -5,6 +5,7 @@ use Rattle.voice_model.specs.State.{row_at}
 use Rattle.interest_table.specs.Inside.{row_in, entry_of, stamp_at, IsListing}
 use Rattle.interest_table.proofs.Listed.{list_longer}
 use Rattle.interest_table.proofs.Due.{dated_longer}
+use Rattle.interest_table.proofs.Census.{listed_longer}
 use Rattle.interest_table.proofs.listing.Listing.put.Goals as goal
 
 longer : (c : goal.After-self-1) → IsListing (stamp_at c.put_name.new.names) (get nat_eq c.put_row.new.rows) c.put_stamp.new.order.items (c.self.inside.next + 1)
@@ -20,6 +21,8 @@ invariant_of-self c = record {
   listing = (longer c).0;
   dated = dated_longer (get nat_eq c.self.inside.rows) (get nat_eq c.put_row.new.rows) c.args.row c.self.inside.next c.self.inside.order.items c.put_stamp.new.order.items c.self.inside.expiries.items c.gain_expiry.new.expiries.items
       c.gain_expiry.ensures.items c.self.invariant.listing.rising c.self.invariant.dated c.put_row.ensures.rows c.put_stamp.ensures.items;
+  apart = listed_longer (get nat_eq c.self.inside.rows) (get nat_eq c.put_row.new.rows) c.args.row c.self.inside.next c.self.inside.order.items c.put_stamp.new.order.items c.self.inside.listed.items c.gain_listed.new.listed.items
+      c.self.invariant.listing.rising c.self.invariant.apart c.put_row.ensures.rows c.put_stamp.ensures.items c.gain_listed.ensures.items;
 }
 
 pub returns-clause-entries : goal.returns-clause-entries

@@ -2,14 +2,15 @@ use Rattle.std.proofs.Common.{◌≡◌, ◌∙◌, ap, sym, map, filter, not, N
 use Rattle.std.specs.Prelude.{nat_eq}
 use Rattle.indexmap.specs.IndexMap.{get}
 use Rattle.voice_model.specs.State.{is_row, row_at}
-use Rattle.interest_table.specs.Inside.{row_in, entry_of, stamp_at, without, kept, IsListing, IsDated, IsLost}
+use Rattle.interest_table.specs.Inside.{row_in, entry_of, stamp_at, without, kept, listed_of, IsListing, IsDated, IsLost, IsDelisted}
 use Rattle.interest_table.proofs.Listed.{not_found, found_row, list_left, all_listed_stay}
 use Rattle.interest_table.proofs.Due.{dated_left, same_timed}
+use Rattle.interest_table.proofs.Census.{listed_left}
 use Rattle.std.proofs.lemmas.Option.{MatchOption-at_some}
 use Rattle.interest_table.proofs.listing.Listing.remove.Goals as goal
 
 pub invariant_of-self : goal.invariant_of-self
-invariant_of-self c = same_timed c.self.inside.names c.take_name.new.names (get nat_eq c.self.inside.rows) c.self.inside.order.items c.self.inside.expiries.items c.self.inside.next c.in_default.ensures.absent c.self.invariant
+invariant_of-self c = same_timed c.self.inside.names c.take_name.new.names (get nat_eq c.self.inside.rows) c.self.inside.order.items c.self.inside.expiries.items c.self.inside.listed.items c.self.inside.next c.in_default.ensures.absent c.self.invariant
 
 none_there : (c : goal.In_default) → row_at (map row_in (map (entry_of (get nat_eq c.self.inside.rows)) c.self.inside.order.items)) c.args.class c.args.key.now ≡ None
 none_there c = not_found (stamp_at c.self.inside.names) (get nat_eq c.self.inside.rows) c.self.inside.order.items c.self.inside.next c.self.invariant.listing c.args.class c.args.key.now (sym c.in_default.ensures.value)
@@ -43,8 +44,17 @@ dated c =
     dated_left at (get nat_eq c.take_row.new.rows) (kept at c.in-Some.stamp) c.in-Some.stamp c.self.inside.order.items c.take_stamp.new.order.items c.self.inside.expiries.items c.take_row.new.expiries.items
     lost c.self.invariant.dated there stands c.take_row.ensures.rows (left c)
 
+apart : (c : goal.After-take_row) → c.take_row.new.listed.items ≡ listed_of (get nat_eq c.take_row.new.rows) c.take_stamp.new.order.items
+apart c =
+    let at = get nat_eq c.self.inside.rows in
+    let there = (c.self.invariant.listing.known c.args.class c.args.key.now c.in-Some.stamp (found c)).0 in
+    let stands = (c.self.invariant.listing.stands c.in-Some.stamp there).0 in
+    let lost : IsDelisted (kept at c.in-Some.stamp) c.in-Some.stamp c.self.inside.listed.items c.take_row.new.listed.items = MatchOption-at_some _ _ (kept at c.in-Some.stamp) (c.take_row.ensures.value ∙ stands) c.take_row.ensures.listed in
+    listed_left at (get nat_eq c.take_row.new.rows) (kept at c.in-Some.stamp) c.in-Some.stamp c.self.inside.next c.self.inside.order.items c.take_stamp.new.order.items c.self.inside.listed.items c.take_row.new.listed.items
+    lost c.self.invariant.listing.rising c.self.invariant.apart there stands c.take_row.ensures.rows (left c)
+
 pub invariant_of-self-2 : goal.invariant_of-self-2
-invariant_of-self-2 c = record { listing = (gone c).0; dated = dated c }
+invariant_of-self-2 c = record { listing = (gone c).0; dated = dated c; apart = apart c }
 
 pub returns-clause-value : goal.returns-clause-value
 returns-clause-value c =

@@ -2,8 +2,8 @@ use Rattle.std.proofs.Common.{rules, ◌≡◌, ◌+◌, ◌≤◌, ℕ, List, l
 use Rattle.std.specs.Prelude.{IsTrue, not}
 use Rattle.std.proofs.lemmas.List.{with_items_is}
 use Rattle.voice_outside.specs.Disk.{segment}
-use Rattle.voice_journal.specs.Image.{Journal as Reading}
-use Rattle.voice_journal.specs.Image.{Records, JournalReading, current_head, journal_in}
+use Rattle.disk_areas.specs.Areas.{Journal as Reading}
+use Rattle.disk_areas.specs.Areas.{Records, JournalReading, current_head, journal_in}
 use Rattle.voice_journal.specs.Readings.{Reads, OtherIs, extent}
 use Rattle.voice_journal.specs.Places.{area_start}
 use Rattle.voice_journal.specs.Parsed.{placed, head_of, IsOther}

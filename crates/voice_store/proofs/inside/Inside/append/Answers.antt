@@ -47,7 +47,7 @@ returns-in-Ok-clause-stood g c =
     (ap (λ (j : JournalValue). j.seat) (on_journal ∙ journal))
     (ap (λ (j : JournalValue). j.doubt) (on_journal ∙ journal) ∙ tr.in_journal)
     (ap (λ (x : Inside). x.doubt) rest ∙ tr.sure)
-    (c.done.ensures.tables b c' tr.ready (shape_tried first t0 old s b c.args.next c' effect c.args.caller c.args.call c.args.replies.0 tr ∙ sym (ap (λ (j : JournalValue). j.shape) journal)))
+    (c.done.ensures.tables tr.held tr.takings b c' tr.ready (shape_tried first t0 old s b c.args.next c' effect c.args.caller c.args.call c.args.replies.0 tr ∙ sym (ap (λ (j : JournalValue). j.shape) journal)))
     (appends_carry c.foundations.ensures old new)
     (λ h. (subst (λ (j : JournalValue). Does (λ r. with_payload r c.payload.result.now) s.journal j old new) (sym on_journal) (c.in-Ok.ensures.ok h), c.append.ensures.crash h))
 
@@ -77,7 +77,7 @@ returns-in-Err-Before-clause-stood g c =
     (ap (λ (j : JournalValue). j.seat) (on_journal ∙ journal))
     (ap (λ (j : JournalValue). j.doubt) (on_journal ∙ journal) ∙ tr.in_journal)
     (ap (λ (x : Inside). x.doubt) rest ∙ tr.sure)
-    (c.failed.ensures.tables b c' tr.ready)
+    (c.failed.ensures.tables tr.held tr.takings b c' tr.ready)
     (failures_carry c.foundations.ensures old new)
     (λ h. subst (λ (j : JournalValue). Undoes s.journal j old new) (sym on_journal) (λ r stands. c.in-Err-Before.ensures.before h r stands before))
 

@@ -1,6 +1,13 @@
-use Rattle.voice_store.specs.Stood.{last_of}
-use Rattle.voice_store.proofs.Landed.{stood_reserved}
-use Rattle.voice_store.proofs.Heard.{last_reserved, looked_reads, goes_calls, few_on_error}
+use Rattle.std.proofs.Common.{ℕ, ◌+◌, ◌≤◌, List, ap, subst, ◌∙◌, arith}
+use Rattle.std.specs.Prelude.{OnErr}
+use Rattle.voice_model.specs.State.{State}
+use Rattle.voice_store.specs.declared.inside.Inside.{Inside}
+use Rattle.voice_store.specs.Stood.{last_of, tapes_of}
+use Rattle.voice_store.specs.Facts.{most_reads}
+use Rattle.voice_store.specs.DeviceCalls.{landing_calls, most_calls}
+use Rattle.voice_store.proofs.Behind.{fits_reserved}
+use Rattle.voice_store.proofs.Landed.{stood_reserved, on_error}
+use Rattle.voice_store.proofs.Heard.{last_reserved, looked_reads, heard_within, few_on_error}
 use Rattle.voice_store.proofs.inside.Inside.apply.Goals as goal
 
 pub returns-in_err-reserve-clause-stood : goal.returns-in_err-reserve-clause-stood
@@ -48,17 +55,49 @@ returns-in-Sound-clause-looks g c = λ hears first t0 stood.
     (last_reserved first s t c.reserve.ensures.rest c.reserve.ensures.items) looked
 
 pub returns-in-Sound-clause-goes : goal.returns-in-Sound-clause-goes
-returns-in-Sound-clause-goes g c = λ first t0 stood.
+returns-in-Sound-clause-goes g c =
+    let stood = c.requires.stood in
+    let looked = c.tell_sound.ensures.looked stood.0 stood.1 (stood_reserved stood.0 stood.1 (g.D.Disk.told c.args.disk.now) c.args.self.now c.reserve.new.self c.reserve.ensures.rest c.reserve.ensures.items stood.2) in
+    record { size = looked.size; honest = looked.honest; later = looked.later; faults = looked.faults }
+
+pub returns-in-Sound-clause-calls : goal.returns-in-Sound-clause-calls
+returns-in-Sound-clause-calls g c = λ first t0 stood.
     let s = c.args.self.now in
     let t = c.reserve.new.self in
     let old = g.D.Disk.told c.args.disk.now in
     let looked = c.tell_sound.ensures.looked first t0 (stood_reserved first t0 old s t c.reserve.ensures.rest c.reserve.ensures.items stood) in
-    goes_calls old (g.D.Disk.told c.tell_sound.new.disk) (last_of first s) (last_of first t) c.args.call c.in-Sound.sound c.in-Sound.rope c.in-Sound.ensures
-    (last_reserved first s t c.reserve.ensures.rest c.reserve.ensures.items) looked
+    heard_within old (g.D.Disk.told c.tell_sound.new.disk) (last_of first s) (last_of first t) c.args.call c.in-Sound.sound c.in-Sound.rope c.in-Sound.ensures
+    (last_reserved first s t c.reserve.ensures.rest c.reserve.ensures.items) looked (tapes_of s)
 
 pub returns-in-Sound-clause-stood : goal.returns-in-Sound-clause-stood
 returns-in-Sound-clause-stood g c = λ first t0 stood.
     c.tell_sound.ensures.stood first t0 (stood_reserved first t0 (g.D.Disk.told c.args.disk.now) c.args.self.now c.reserve.new.self c.reserve.ensures.rest c.reserve.ensures.items stood)
 
-pub returns-in-Change-clause-goes : goal.returns-in-Change-clause-goes
-returns-in-Change-clause-goes g c = λ first t0 stood. c.land_and_change.ensures.goes (last_of first c.args.self.now)
+pub returns-in-Change-clause-calls : goal.returns-in-Change-clause-calls
+returns-in-Change-clause-calls g c = λ first t0 stood.
+    let s = c.args.self.now in
+    let t = c.reserve.new.self in
+    let old = g.D.Disk.told c.args.disk.now in
+    let new = g.D.Disk.told c.land_and_change.new.disk in
+    subst (λ (x : State). new.calls ≤ old.calls + most_calls x (tapes_of s) c.args.call) (last_reserved first s t c.reserve.ensures.rest c.reserve.ensures.items)
+    (subst (λ (l : List (List ℕ)). new.calls ≤ old.calls + most_calls (last_of first t) l c.args.call) (ap (λ (x : Inside). tapes_of x) c.reserve.ensures.rest)
+    (c.land_and_change.ensures.calls first t0 (stood_reserved first t0 old s t c.reserve.ensures.rest c.reserve.ensures.items stood)))
+
+pub returns-in-Change-clause-few : goal.returns-in-Change-clause-few
+returns-in-Change-clause-few g c = λ first t0 stood.
+    let s = c.args.self.now in
+    let t = c.reserve.new.self in
+    let old = g.D.Disk.told c.args.disk.now in
+    let new = g.D.Disk.told c.land_and_change.new.disk in
+    on_error (new.calls ≤ old.calls + landing_calls (last_of first s)) (new.calls ≤ old.calls + (landing_calls (last_of first s) + most_reads (last_of first s) c.args.call))
+    (λ few. omega (arith, few)) c.land_and_change.result
+    (subst (λ (x : State). OnErr c.land_and_change.result (new.calls ≤ old.calls + landing_calls x)) (last_reserved first s t c.reserve.ensures.rest c.reserve.ensures.items)
+    (c.land_and_change.ensures.few first t0 (stood_reserved first t0 old s t c.reserve.ensures.rest c.reserve.ensures.items stood)))
+
+pub returns-in-Change-clause-behind : goal.returns-in-Change-clause-behind
+returns-in-Change-clause-behind g c = λ none first t0 stood takes fits room.
+    let s = c.args.self.now in
+    let t = c.reserve.new.self in
+    c.land_and_change.ensures.spare (ap (λ (x : Inside). x.doubt) c.reserve.ensures.rest ∙ none) first t0
+    (stood_reserved first t0 (g.D.Disk.told c.args.disk.now) s t c.reserve.ensures.rest c.reserve.ensures.items stood) takes
+    (fits_reserved first s t c.args.call c.reserve.ensures.rest c.reserve.ensures.items fits)

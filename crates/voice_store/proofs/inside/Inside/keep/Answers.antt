@@ -69,3 +69,25 @@ returns-in-Switch-clause-stood g c = λ first t0 makes.
     let need = need_of first t0 disk s c.args.call c.args.pieces makes c.parts_size-base.result c.from-more.result base (c.from-more.ensures ∙ c.rope_size.ensures ∙ ap (λ n. 24 + cond (s.parts.form == 2) 1 0 + 16 * n) c.count-count.ensures) in
     let fits = subst (λ (w : Way). IsWay last (Edited last.next makes.rope.samples) w) c.in-Switch.is (c.in_ok-most.ensures last (Edited last.next makes.rope.samples) makes.stood.upright.seated base frame need) in
     c.keep_by-in-Switch.ensures.stood first t0 (has_way first t0 disk s c.args.call c.args.pieces makes ways.Switch fits fits.free)
+
+pub returns-in-Append-clause-calls : goal.returns-in-Append-clause-calls
+returns-in-Append-clause-calls g c = λ first t0 makes.
+    let s = c.args.self.now in
+    let disk = g.D.Disk.told c.args.disk.now in
+    let last = last_of first s in
+    let frame = ap (λ n. 16 + 16 * n) (c.from.ensures ∙ c.count-count.ensures) ∙ frame_of first t0 disk s c.args.call c.args.pieces makes in
+    let base = base_now first t0 disk s makes.stood makes.sure c.parts_size-base.result c.parts_size-base.ensures.size in
+    let need = need_of first t0 disk s c.args.call c.args.pieces makes c.parts_size-base.result c.from-more.result base (c.from-more.ensures ∙ c.rope_size.ensures ∙ ap (λ n. 24 + cond (s.parts.form == 2) 1 0 + 16 * n) c.count-count.ensures) in
+    let fits = subst (λ (w : Way). IsWay last (Edited last.next makes.rope.samples) w) c.in-Append.is (c.in_ok-most.ensures last (Edited last.next makes.rope.samples) makes.stood.upright.seated base frame need) in
+    c.keep_by.ensures.calls first t0 (has_way first t0 disk s c.args.call c.args.pieces makes ways.Append fits fits.free)
+
+pub returns-in-Switch-clause-calls : goal.returns-in-Switch-clause-calls
+returns-in-Switch-clause-calls g c = λ first t0 makes.
+    let s = c.args.self.now in
+    let disk = g.D.Disk.told c.args.disk.now in
+    let last = last_of first s in
+    let frame = ap (λ n. 16 + 16 * n) (c.from.ensures ∙ c.count-count.ensures) ∙ frame_of first t0 disk s c.args.call c.args.pieces makes in
+    let base = base_now first t0 disk s makes.stood makes.sure c.parts_size-base.result c.parts_size-base.ensures.size in
+    let need = need_of first t0 disk s c.args.call c.args.pieces makes c.parts_size-base.result c.from-more.result base (c.from-more.ensures ∙ c.rope_size.ensures ∙ ap (λ n. 24 + cond (s.parts.form == 2) 1 0 + 16 * n) c.count-count.ensures) in
+    let fits = subst (λ (w : Way). IsWay last (Edited last.next makes.rope.samples) w) c.in-Switch.is (c.in_ok-most.ensures last (Edited last.next makes.rope.samples) makes.stood.upright.seated base frame need) in
+    c.keep_by-in-Switch.ensures.calls first t0 (has_way first t0 disk s c.args.call c.args.pieces makes ways.Switch fits fits.free)

@@ -1,11 +1,15 @@
-use Rattle.std.proofs.Common.{◌≡◌, ◌++◌, ◌∷◌, [], ◌&&◌, refl, ap, ◌∙◌, arith}
+use Rattle.std.proofs.Common.{◌≡◌, ◌++◌, ◌∷◌, [], ◌&&◌, refl, sym, ap, subst, ◌∙◌}
 use Rattle.std.specs.Prelude.{is_some}
+use Rattle.std.specs.Arc.{arc_value}
 use Rattle.voice_outside.specs.Counters.{HasRisen}
 use Rattle.voice_model.specs.declared.calls.Reply.{Reply}
-use Rattle.voice_store.specs.Facts.{Adds, AddsLanding, IsFault, entry_of, most_calls}
+use Rattle.voice_store.specs.Facts.{Adds, AddsLanding, IsFault, entry_of}
 use Rattle.voice_store.specs.Stood.{last_of, tapes_of}
+use Rattle.voice_store.specs.Spare.{FitsBehindOthers}
+use Rattle.voice_store.specs.declared.inside.Inside.{Inside}
 use Rattle.voice_store.proofs.Refused.{unlanded_stays}
-use Rattle.voice_store.proofs.Landed.{goes_on, risen_later, adds_after, landing_same, if_ok, on_error, most_of}
+use Rattle.voice_store.proofs.Landed.{risen_later, adds_after, landing_same, if_ok, on_error}
+use Rattle.voice_store.proofs.Counted.{landed_within, unlanded_within}
 use Rattle.voice_store.proofs.inside.Inside.land_and_change.Goals as goal
 
 pub change-requires-clause-stood : goal.change-requires-clause-stood
@@ -13,12 +17,19 @@ change-requires-clause-stood g c κs within =
     let stood = c.requires.stood in
     (stood.0, stood.1, c.land_first.ensures.stood stood.0 stood.1 stood.2)
 
-pub returns-clause-goes : goal.returns-clause-goes
-returns-clause-goes g c = λ state.
-    let most = most_of state c.args.call c.requires.built c.requires.changing in
-    let n = most.1 in
-    goes_on 2 most.0 (most_calls state c.args.call) (g.D.Disk.told c.args.disk.now) (g.D.Disk.told c.land_first.new.disk) (g.D.Disk.told c.change.new.disk)
-    c.land_first.ensures.goes (c.change.ensures.goes state most.0 most.1) (omega (arith, n))
+pub returns-clause-calls : goal.returns-clause-calls
+returns-clause-calls g c = λ first t0 stood.
+    let s = c.args.self.now in
+    let t = c.land_first.new.self in
+    let old = g.D.Disk.told c.args.disk.now in
+    landed_within (last_of first s) (last_of first t) (tapes_of s) (tapes_of t) c.args.call old.calls (g.D.Disk.told c.land_first.new.disk).calls (g.D.Disk.told c.change.new.disk).calls
+    c.requires.changing (c.if-not-land_first.ensures.landed refl first t0 stood) (ap arc_value c.land_first.ensures.tapes)
+    (c.land_first.ensures.calls first t0 stood) (c.change.ensures.calls first t0 (c.land_first.ensures.stood first t0 stood))
+
+pub returns-then-not-land_first-clause-calls : goal.returns-then-not-land_first-clause-calls
+returns-then-not-land_first-clause-calls g c = λ first t0 stood.
+    let s = c.args.self.now in
+    unlanded_within (last_of first s) (tapes_of s) c.args.call (g.D.Disk.told c.args.disk.now).calls (g.D.Disk.told c.land_first.new.disk).calls c.requires.changing (c.land_first.ensures.calls first t0 stood)
 
 pub returns-clause-cause : goal.returns-clause-cause
 returns-clause-cause g c =
@@ -55,3 +66,8 @@ returns-then-not-land_first-clause-stood g c = λ first t0 stood.
     let unsure = c.if-not-land_first.ensures.unsure refl first t0 stood in
     c.note_fault.ensures.stood first t0 (c.land_first.ensures.stood first t0 stood)
     (unlanded_stays disk.honest last (tapes_of s) c.args.caller c.args.call c.requires.built (ap (λ b. b && is_some last.doubt) c.requires.changing ∙ unsure))
+
+pub returns-clause-spare : goal.returns-clause-spare
+returns-clause-spare g c = λ none first t0 stood takes fits.
+    c.change.ensures.spare first t0 (c.land_first.ensures.stood first t0 stood) takes
+    (subst (λ (s : Inside). FitsBehindOthers (last_of first s) (tapes_of s) c.args.call) (sym (c.land_first.ensures.still none).1) fits)

@@ -49,3 +49,16 @@ returns-clause-stood g c = λ first t0 stood.
       unrefused = refused_so first t0 disk s c.args.take stood c.requires.sure (taken_many (tapes_of s) c.args.take c.requires.take)
           ∙ ap (λ (shape : Shape). refused_by s.parts.next shape.block open_now c.args.take.len) (sym c.shape-shape.ensures) ∙ sym c.in_default.ensures;
     })
+
+pub returns-clause-calls : goal.returns-clause-calls
+returns-clause-calls g c = λ first t0 stood.
+    let s = c.args.self.now in
+    let disk = g.D.Disk.told c.args.disk.now in
+    let open_now = open_in s.parts.blocks.holders in
+    c.record_unrefused.ensures.calls first t0 (record {
+      stood = stood;
+      sure = c.requires.sure;
+      has = c.requires.take;
+      unrefused = refused_so first t0 disk s c.args.take stood c.requires.sure (taken_many (tapes_of s) c.args.take c.requires.take)
+          ∙ ap (λ (shape : Shape). refused_by s.parts.next shape.block open_now c.args.take.len) (sym c.shape-shape.ensures) ∙ sym c.in_default.ensures;
+    })

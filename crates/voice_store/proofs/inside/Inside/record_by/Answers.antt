@@ -4,7 +4,7 @@ use Rattle.voice_units.specs.Blocks.{blocks_for}
 use Rattle.voice_blocks.specs.Holders.{open_in}
 use Rattle.voice_store.specs.Stood.{last_of, tapes_of}
 use Rattle.voice_store.specs.Keeping.{recorded_by}
-use Rattle.voice_store.proofs.Kept.{is_sure, same_parts, same_shape}
+use Rattle.voice_store.proofs.Kept.{is_sure, same_parts, same_shape, stood_few as held_few}
 use Rattle.voice_store.proofs.Fewer.{long, enough}
 use Rattle.voice_store.proofs.Written.{change_in, holding}
 use Rattle.voice_store.proofs.inside.Inside.record_by.Goals as goal
@@ -15,8 +15,10 @@ ready_recording-requires-clause-parts g c =
     let s = c.args.self.now in
     let disk = g.D.Disk.told c.args.disk.now in
     record {
+      held = way.2.makes.stood.held;
+      takings = way.2.makes.stood.takings;
       what = way.2.makes.stood.b;
-      shows = (is_sure way.0 way.1 disk s way.2.makes.stood way.2.makes.sure).tables;
+      runs = (is_sure way.0 way.1 disk s way.2.makes.stood way.2.makes.sure).tables;
       in_shape = same_shape way.0 way.1 disk s way.2.makes.stood way.2.makes.sure ∙ sym c.shape-shape.ensures;
     }
 
@@ -37,7 +39,7 @@ returns-in_err-rope-clause-stood g c = λ first t0 way.
     let s = c.args.self.now in
     let disk = g.D.Disk.told c.args.disk.now in
     same_parts first t0 disk s way.makes.stood way.makes.sure c.ready_recording.new.parts
-    (c.in_err-rope.ensures.err way.makes.stood.b (is_sure first t0 disk s way.makes.stood way.makes.sure).tables)
+    (c.in_err-rope.ensures.err way.makes.stood.held way.makes.stood.takings way.makes.stood.b (is_sure first t0 disk s way.makes.stood way.makes.sure).tables)
 
 pub plan-requires : goal.plan-requires
 plan-requires g c =
@@ -47,9 +49,11 @@ plan-requires g c =
     let b = way.2.makes.stood.b in
     let shape = same_shape way.0 way.1 disk s way.2.makes.stood way.2.makes.sure in
     record {
+      held = way.2.makes.stood.held;
+      takings = way.2.makes.stood.takings;
       b = b;
       c = change_in b c.in_ok-rope.rope;
-      ready = (c.in_ok-rope.ensures.ready b (is_sure way.0 way.1 disk s way.2.makes.stood way.2.makes.sure).tables (shape ∙ sym c.shape-shape.ensures)).0;
+      ready = (c.in_ok-rope.ensures.ready way.2.makes.stood.held way.2.makes.stood.takings b (is_sure way.0 way.1 disk s way.2.makes.stood way.2.makes.sure).tables (held_few way.0 way.1 disk s way.2.makes.stood) (shape ∙ sym c.shape-shape.ensures)).0;
       in_shape = shape;
     }
 
@@ -61,7 +65,7 @@ returns-in_default-clause-stood g c = λ first t0 way.
     let tables = (is_sure first t0 disk s way.makes.stood way.makes.sure).tables in
     let shape = same_shape first t0 disk s way.makes.stood way.makes.sure in
     same_parts first t0 disk s way.makes.stood way.makes.sure c.give_back.new.parts
-    (c.give_back.ensures b (change_in b c.in_ok-rope.rope) (c.in_ok-rope.ensures.ready b tables (shape ∙ sym c.shape-shape.ensures)).0)
+    (c.give_back.ensures way.makes.stood.held way.makes.stood.takings b (change_in b c.in_ok-rope.rope) (c.in_ok-rope.ensures.ready way.makes.stood.held way.makes.stood.takings b tables (held_few first t0 disk s way.makes.stood) (shape ∙ sym c.shape-shape.ensures)).0)
 
 pub write_and_commit-requires-clause-holds : goal.write_and_commit-requires-clause-holds
 write_and_commit-requires-clause-holds g c κs within =
@@ -72,7 +76,7 @@ write_and_commit-requires-clause-holds g c κs within =
     let disk = g.D.Disk.told c.args.disk.now in
     let b = way.makes.stood.b in
     let shape = same_shape first t0 disk s way.makes.stood way.makes.sure in
-    let ready = c.in_ok-rope.ensures.ready b (is_sure first t0 disk s way.makes.stood way.makes.sure).tables (shape ∙ sym c.shape-shape.ensures) in
+    let ready = c.in_ok-rope.ensures.ready way.makes.stood.held way.makes.stood.takings b (is_sure first t0 disk s way.makes.stood way.makes.sure).tables (held_few first t0 disk s way.makes.stood) (shape ∙ sym c.shape-shape.ensures) in
     let next = c.in_ok-rope.rope in (
       next,
       refl,
@@ -80,7 +84,7 @@ write_and_commit-requires-clause-holds g c κs within =
       t0,
       holding first t0 disk s c.args.take c.args.way way c.ready_recording.new.parts next ready.0 c.in_ok-rope.ensures.recorded
           (ready.1 ∙ ap (λ (x : Shape). blocks_for x.block c.args.take.len) c.shape-shape.ensures) ready.2 ready.3 ready.4,
-      c.in-Ok.ensures b (change_in b next) (last_of first s) (recorded_by (last_of first s) (tapes_of s) c.args.take) ready.0 shape way.goes way.free,
+      c.in-Ok.ensures way.makes.stood.held way.makes.stood.takings b (change_in b next) (last_of first s) (recorded_by (last_of first s) (tapes_of s) c.args.take) ready.0 shape way.goes way.free,
     )
 
 pub returns-clause-stood : goal.returns-clause-stood
@@ -89,9 +93,22 @@ returns-clause-stood g c = λ first t0 way.
     let disk = g.D.Disk.told c.args.disk.now in
     let b = way.makes.stood.b in
     let shape = same_shape first t0 disk s way.makes.stood way.makes.sure in
-    let ready = c.in_ok-rope.ensures.ready b (is_sure first t0 disk s way.makes.stood way.makes.sure).tables (shape ∙ sym c.shape-shape.ensures) in
+    let ready = c.in_ok-rope.ensures.ready way.makes.stood.held way.makes.stood.takings b (is_sure first t0 disk s way.makes.stood way.makes.sure).tables (held_few first t0 disk s way.makes.stood) (shape ∙ sym c.shape-shape.ensures) in
     let next = c.in_ok-rope.rope in
     c.write_and_commit.ensures.stood next refl first t0
     (holding first t0 disk s c.args.take c.args.way way c.ready_recording.new.parts next ready.0 c.in_ok-rope.ensures.recorded
     (ready.1 ∙ ap (λ (x : Shape). blocks_for x.block c.args.take.len) c.shape-shape.ensures) ready.2 ready.3 ready.4)
-    (c.in-Ok.ensures b (change_in b next) (last_of first s) (recorded_by (last_of first s) (tapes_of s) c.args.take) ready.0 shape way.goes way.free)
+    (c.in-Ok.ensures way.makes.stood.held way.makes.stood.takings b (change_in b next) (last_of first s) (recorded_by (last_of first s) (tapes_of s) c.args.take) ready.0 shape way.goes way.free)
+
+pub returns-clause-calls : goal.returns-clause-calls
+returns-clause-calls g c = λ first t0 way.
+    let s = c.args.self.now in
+    let disk = g.D.Disk.told c.args.disk.now in
+    let b = way.makes.stood.b in
+    let shape = same_shape first t0 disk s way.makes.stood way.makes.sure in
+    let ready = c.in_ok-rope.ensures.ready way.makes.stood.held way.makes.stood.takings b (is_sure first t0 disk s way.makes.stood way.makes.sure).tables (held_few first t0 disk s way.makes.stood) (shape ∙ sym c.shape-shape.ensures) in
+    let next = c.in_ok-rope.rope in
+    c.write_and_commit.ensures.calls next refl first t0
+    (holding first t0 disk s c.args.take c.args.way way c.ready_recording.new.parts next ready.0 c.in_ok-rope.ensures.recorded
+    (ready.1 ∙ ap (λ (x : Shape). blocks_for x.block c.args.take.len) c.shape-shape.ensures) ready.2 ready.3 ready.4)
+    (c.in-Ok.ensures way.makes.stood.held way.makes.stood.takings b (change_in b next) (last_of first s) (recorded_by (last_of first s) (tapes_of s) c.args.take) ready.0 shape way.goes way.free)

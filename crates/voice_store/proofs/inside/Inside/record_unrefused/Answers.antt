@@ -89,3 +89,31 @@ returns-in-Switch-clause-stood g c = λ first t0 makes.
     (c.from-more.ensures ∙ c.growth.ensures ∙ ap (λ (x : Shape). 24 + cond (s.parts.form == 2) 1 0 + cond (len == 0) 0 (34 + (4 + address_size s.parts.form) * blocks_for x.block len)) c.shape-shape.ensures) in
     let fits = subst (λ (w : Way). IsWay last (recorded_by last (tapes_of s) c.args.take) w) c.in-Switch.is (c.in_ok-most.ensures last (recorded_by last (tapes_of s) c.args.take) makes.stood.upright.seated base frame need) in
     c.record_by-in-Switch.ensures.stood first t0 (has_room first t0 disk s c.args.take makes ways.Switch fits fits.free)
+
+pub returns-in-Append-clause-calls : goal.returns-in-Append-clause-calls
+returns-in-Append-clause-calls g c = λ first t0 makes.
+    let s = c.args.self.now in
+    let disk = g.D.Disk.told c.args.disk.now in
+    let last = last_of first s in
+    let len = c.args.take.len in
+    let frame = ap (λ n. 22 + c.address_width.result * n) (c.from-blocks.ensures ∙ c.blocks_needed.ensures ∙ ap (λ (x : Shape). blocks_for x.block len) c.shape-shape.ensures)
+    ∙ ap (λ w. 22 + w * blocks_for s.journal.shape.block len) c.address_width.ensures ∙ frame_is first t0 disk s c.args.take makes in
+    let base = base_now first t0 disk s makes.stood makes.sure c.parts_size-base.result c.parts_size-base.ensures.size in
+    let need = need_is first t0 disk s c.args.take makes c.parts_size-base.result c.from-more.result base
+    (c.from-more.ensures ∙ c.growth.ensures ∙ ap (λ (x : Shape). 24 + cond (s.parts.form == 2) 1 0 + cond (len == 0) 0 (34 + (4 + address_size s.parts.form) * blocks_for x.block len)) c.shape-shape.ensures) in
+    let fits = subst (λ (w : Way). IsWay last (recorded_by last (tapes_of s) c.args.take) w) c.in-Append.is (c.in_ok-most.ensures last (recorded_by last (tapes_of s) c.args.take) makes.stood.upright.seated base frame need) in
+    c.record_by.ensures.calls first t0 (has_room first t0 disk s c.args.take makes ways.Append fits fits.free)
+
+pub returns-in-Switch-clause-calls : goal.returns-in-Switch-clause-calls
+returns-in-Switch-clause-calls g c = λ first t0 makes.
+    let s = c.args.self.now in
+    let disk = g.D.Disk.told c.args.disk.now in
+    let last = last_of first s in
+    let len = c.args.take.len in
+    let frame = ap (λ n. 22 + c.address_width.result * n) (c.from-blocks.ensures ∙ c.blocks_needed.ensures ∙ ap (λ (x : Shape). blocks_for x.block len) c.shape-shape.ensures)
+    ∙ ap (λ w. 22 + w * blocks_for s.journal.shape.block len) c.address_width.ensures ∙ frame_is first t0 disk s c.args.take makes in
+    let base = base_now first t0 disk s makes.stood makes.sure c.parts_size-base.result c.parts_size-base.ensures.size in
+    let need = need_is first t0 disk s c.args.take makes c.parts_size-base.result c.from-more.result base
+    (c.from-more.ensures ∙ c.growth.ensures ∙ ap (λ (x : Shape). 24 + cond (s.parts.form == 2) 1 0 + cond (len == 0) 0 (34 + (4 + address_size s.parts.form) * blocks_for x.block len)) c.shape-shape.ensures) in
+    let fits = subst (λ (w : Way). IsWay last (recorded_by last (tapes_of s) c.args.take) w) c.in-Switch.is (c.in_ok-most.ensures last (recorded_by last (tapes_of s) c.args.take) makes.stood.upright.seated base frame need) in
+    c.record_by-in-Switch.ensures.calls first t0 (has_room first t0 disk s c.args.take makes ways.Switch fits fits.free)

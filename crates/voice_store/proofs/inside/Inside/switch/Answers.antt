@@ -55,7 +55,7 @@ returns-in-Ok-clause-stood g c =
     (ap (λ (j : JournalValue). j.doubt) (on_journal ∙ journal) ∙ tr.in_journal)
     (ap (λ (x : Inside). x.doubt) rest ∙ tr.sure)
     done.parts
-    (c.done.ensures.tables b c' tr.ready (shape_tried first t0 old s b c.args.next c' effect c.args.caller c.args.call c.args.replies.0 tr ∙ sym (ap (λ (j : JournalValue). j.shape) journal)))
+    (c.done.ensures.tables tr.held tr.takings b c' tr.ready (shape_tried first t0 old s b c.args.next c' effect c.args.caller c.args.call c.args.replies.0 tr ∙ sym (ap (λ (j : JournalValue). j.shape) journal)))
     refl
     (switches_carry c.foundations.ensures old new)
     (λ h. (subst (λ (j : JournalValue). Does (λ r. switched r c.args.base.now.payloads) s.journal j old new) (sym on_journal) (c.in-Ok.ensures.ok h), c.switch.ensures.crash h))
@@ -86,7 +86,7 @@ returns-in-Err-Before-clause-stood g c =
     (ap (λ (j : JournalValue). j.seat) (on_journal ∙ journal))
     (ap (λ (j : JournalValue). j.doubt) (on_journal ∙ journal) ∙ tr.in_journal)
     (ap (λ (x : Inside). x.doubt) rest ∙ tr.sure)
-    (c.failed.ensures.tables b c' tr.ready)
+    (c.failed.ensures.tables tr.held tr.takings b c' tr.ready)
     (failures_carry c.foundations.ensures old new)
     (λ h. subst (λ (j : JournalValue). Undoes s.journal j old new) (sym on_journal) (λ r stands. c.in-Err-Before.ensures.before h r stands before))
 

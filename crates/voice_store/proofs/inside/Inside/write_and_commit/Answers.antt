@@ -4,6 +4,8 @@ use Rattle.next_changes.specs.declared.NextChange.TheVariants as changes
 use Rattle.voice_store.specs.declared.inside.Inside.{Inside}
 use Rattle.voice_store.specs.Stood.{last_of, tapes_of, Stood}
 use Rattle.voice_store.specs.Keeping.{recorded_by}
+use Rattle.voice_model.specs.Replay.{acted}
+use Rattle.voice_store.proofs.Counted.{unwritten_within, recorded_within}
 use Rattle.voice_store.proofs.Going.{can_go}
 use Rattle.voice_store.proofs.Written.{Goes, change_in, in_shape, same_rope, trying_recording, stood_unwritten}
 use Rattle.voice_store.proofs.inside.Inside.write_and_commit.Goals as goal
@@ -19,7 +21,7 @@ failed-requires-clause-ready g c κs within =
     let h = c.requires.holds in
     let rope = c.in-Rope.rope in
     let goes = subst (Goes h.2 h.3 (g.D.Disk.told c.args.disk.now) c.args.self.now c.args.take c.args.plan) (same_rope c.args.next h.0 rope h.1 c.in-Rope.is) (h.4, h.5) in
-    record { b = goes.0.makes.stood.b; c = change_in goes.0.makes.stood.b rope; ready = goes.0.ready; in_shape = in_shape h.2 h.3 (g.D.Disk.told c.args.disk.now) c.args.self.now c.args.take rope goes.0 }
+    record { held = goes.0.makes.stood.held; takings = goes.0.makes.stood.takings; b = goes.0.makes.stood.b; c = change_in goes.0.makes.stood.b rope; ready = goes.0.ready; in_shape = in_shape h.2 h.3 (g.D.Disk.told c.args.disk.now) c.args.self.now c.args.take rope goes.0 }
 
 pub returns-in_default-written-clause-stood : goal.returns-in_default-written-clause-stood
 returns-in_default-written-clause-stood g c = λ other is first t0 held plan.
@@ -33,7 +35,7 @@ returns-in_default-written-clause-stood g c = λ other is first t0 held plan.
     subst (λ (x : Inside). Stood first t0 new x) (sym c.failed.ensures.rest)
     (stood_unwritten first t0 old s c.args.take rope h new c.foundations.ensures made.later made.size made.honest
     c.write_recording-written.ensures.moments c.write_recording-written.ensures.content c.args.caller s'.parts s'.history
-    (c.failed.ensures.tables h.makes.stood.b (change_in h.makes.stood.b rope) h.ready) c.failed.ensures.items)
+    (c.failed.ensures.tables h.makes.stood.held h.makes.stood.takings h.makes.stood.b (change_in h.makes.stood.b rope) h.ready) c.failed.ensures.items)
 
 pub commit-requires-clause-can : goal.commit-requires-clause-can
 commit-requires-clause-can g c κs within =
@@ -58,7 +60,7 @@ commit-requires-clause-ready g c κs within =
     let h = c.requires.holds in
     let rope = c.in-Rope.rope in
     let goes = subst (Goes h.2 h.3 (g.D.Disk.told c.args.disk.now) c.args.self.now c.args.take c.args.plan) (same_rope c.args.next h.0 rope h.1 c.in-Rope.is) (h.4, h.5) in
-    record { b = goes.0.makes.stood.b; c = change_in goes.0.makes.stood.b rope; ready = goes.0.ready; in_shape = in_shape h.2 h.3 (g.D.Disk.told c.args.disk.now) c.args.self.now c.args.take rope goes.0 }
+    record { held = goes.0.makes.stood.held; takings = goes.0.makes.stood.takings; b = goes.0.makes.stood.b; c = change_in goes.0.makes.stood.b rope; ready = goes.0.ready; in_shape = in_shape h.2 h.3 (g.D.Disk.told c.args.disk.now) c.args.self.now c.args.take rope goes.0 }
 
 pub returns-clause-stood : goal.returns-clause-stood
 returns-clause-stood g c = λ other is first t0 held plan.
@@ -73,3 +75,21 @@ returns-clause-stood g c = λ other is first t0 held plan.
     (trying_recording first t0 old s c.args.take rope goes.0 new c.foundations.ensures made.later made.size made.honest
     c.write_recording-written.ensures.moments c.write_recording-written.ensures.content c.args.caller c.in-Ok.ensures.written c.replies_of-replies.result.0 c.replies_of-replies.ensures.first)
     goes.1
+
+pub returns-in_default-written-clause-calls : goal.returns-in_default-written-clause-calls
+returns-in_default-written-clause-calls g c = λ other is first t0 held plan.
+    let s = c.args.self.now in
+    let old = g.D.Disk.told c.args.disk.now in
+    let rope = c.in-Rope.rope in
+    let goes = subst (Goes first t0 old s c.args.take c.args.plan) (same_rope c.args.next other rope is c.in-Rope.is) (held, plan) in
+    unwritten_within first t0 old s c.args.take rope goes.0 (g.D.Disk.told c.write_recording-written.new.disk).calls c.write_recording-written.ensures.made.calls
+
+pub returns-clause-calls : goal.returns-clause-calls
+returns-clause-calls g c = λ other is first t0 held plan.
+    let s = c.args.self.now in
+    let old = g.D.Disk.told c.args.disk.now in
+    let rope = c.in-Rope.rope in
+    let goes = subst (Goes first t0 old s c.args.take c.args.plan) (same_rope c.args.next other rope is c.in-Rope.is) (held, plan) in
+    let b = goes.0.makes.stood.b in
+    recorded_within first t0 old s c.args.take rope goes.0 s.journal (acted b (change_in b rope)) c.args.plan (g.D.Disk.told c.write_recording-written.new.disk).calls (g.D.Disk.told c.commit.new.disk).calls
+    goes.1 c.write_recording-written.ensures.made.calls c.commit.ensures.calls

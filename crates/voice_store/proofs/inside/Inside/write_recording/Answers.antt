@@ -3,7 +3,8 @@ use Rattle.recording_writer.specs.Wrote.{AreDistinct}
 use Rattle.recording_writer.specs.Runs.{writes_for}
 use Rattle.voice_model.specs.Tapes.{taken}
 use Rattle.voice_store.specs.Stood.{tapes_of}
-use Rattle.voice_store.proofs.Fewer.{blocks_few, made_fewer, has_bytes}
+use Rattle.voice_units.specs.Blocks.{blocks_for}
+use Rattle.voice_store.proofs.Fewer.{made_fewer, has_bytes}
 use Rattle.voice_store.proofs.Written.{distinct}
 use Rattle.voice_store.proofs.inside.Inside.write_recording.Goals as goal
 
@@ -15,13 +16,10 @@ write_samples-result-requires-clause-differ g c κs within =
 pub returns-clause-made : goal.returns-clause-made
 returns-clause-made g c =
     let h = c.requires.holds in
-    let shape = c.args.self.now.journal.shape in
     let few = c.write_samples-result.ensures.few in
-    let least = shape.conditions.some_block in
     let many = ap length c.deref-2.ensures.value ∙ h.2.many in
-    let most = blocks_few shape.block c.args.take.len (omega (arith, least)) in
-    made_fewer (writes_for c.shape-shape.result.block c.deref-2.result.now (length c.samples-samples.result.now)) c.args.take.len (g.D.Disk.told c.args.disk.now) (g.D.Disk.told c.write_samples-result.new.disk)
-    c.write_samples-result.result (omega (arith, few, many, most)) c.write_samples-result.ensures.made
+    made_fewer (writes_for c.shape-shape.result.block c.deref-2.result.now (length c.samples-samples.result.now)) (blocks_for c.args.self.now.journal.shape.block c.args.take.len) (g.D.Disk.told c.args.disk.now) (g.D.Disk.told c.write_samples-result.new.disk)
+    c.write_samples-result.result (omega (arith, few, many)) c.write_samples-result.ensures.made
 
 pub returns-clause-written : goal.returns-clause-written
 returns-clause-written g c = λ is.

@@ -1,11 +1,12 @@
 use Rattle.std.proofs.Common.{◌≡◌, ◌+◌, ◌≤◌, None, false, sym, ◌∙◌, subst}
 use Rattle.std.specs.Prelude.{IsTrue, OnErr}
 use Rattle.listening.specs.Looks.{OnlyLooked}
-use Rattle.voice_store.specs.Shown.{Stands, history_of, state_of}
-use Rattle.voice_store.specs.Facts.{Goes, GoesOn, hears, most_reads, most_calls}
+use Rattle.voice_store.specs.Shown.{Stands, HasRoomFor, history_of, tapes_in, state_of}
+use Rattle.voice_store.specs.Spare.{FitsBehindOthers}
+use Rattle.voice_store.specs.Facts.{GoesOn, hears, most_reads}
+use Rattle.voice_store.specs.DeviceCalls.{landing_calls, most_calls}
 use Rattle.voice_store.proofs.Spare.{nothing_waits}
 use Rattle.voice_store.proofs.Faults.{covers_answer}
-use Rattle.voice_store.proofs.Landed.{on_error}
 use Rattle.voice_store.proofs.store.Store.apply.Goals as goal
 
 pub invariant_of-self : goal.invariant_of-self
@@ -15,7 +16,7 @@ invariant_of-self g c =
     let origin = g.D.Disk.told c.self.inside.origin.value in
     let old = g.D.Disk.told c.self.inside.disk in
     let new = g.D.Disk.told c.apply.new.disk in
-    let goes = a.goes was.first (origin.calls + 1) was.stands.stood in
+    let goes = a.goes in
     record {
       first = was.first;
       stands = record {
@@ -35,7 +36,7 @@ returns-clause-state g c =
     let origin = g.D.Disk.told c.self.inside.origin.value in
     let old = g.D.Disk.told c.self.inside.disk in
     let new = g.D.Disk.told c.apply.new.disk in
-    let goes = a.goes first (origin.calls + 1) was.stood in
+    let goes = a.goes in
     record {
       stood = a.stood first (origin.calls + 1) was.stood;
       faults = covers_answer origin.faults old.faults new.faults c.args.caller c.args.call new.calls c.self.inside.inside.history.items c.apply.new.self.history.items c.apply.result
@@ -45,30 +46,22 @@ returns-clause-state g c =
     }
 
 pub returns-clause-goes : goal.returns-clause-goes
-returns-clause-goes g c =
-    let was = c.self.invariant in
-    let origin = g.D.Disk.told c.self.inside.origin.value in
-    let goes = c.apply.ensures.goes was.first (origin.calls + 1) was.stands.stood in
-    subst (λ v. GoesOn (g.D.Disk.told v.disk) (g.D.Disk.told c.apply.new.disk)) c.self.view_is
-    (record { size = goes.size; honest = goes.honest; later = goes.later; faults = goes.faults })
+returns-clause-goes g c = subst (λ v. GoesOn (g.D.Disk.told v.disk) (g.D.Disk.told c.apply.new.disk)) c.self.view_is c.apply.ensures.goes
 
 pub returns-clause-calls : goal.returns-clause-calls
 returns-clause-calls g c = λ first stands.
     let was = subst (λ v. Stands first (g.D.Disk.told v.origin) (g.D.Disk.told v.disk) v.inside) (sym c.self.view_is) stands in
     let origin = g.D.Disk.told c.self.inside.origin.value in
-    let goes = c.apply.ensures.goes first (origin.calls + 1) was.stood in
-    subst (λ v. (g.D.Disk.told c.apply.new.disk).calls ≤ (g.D.Disk.told v.disk).calls + most_calls (state_of first v) c.args.call) c.self.view_is goes.calls
+    subst (λ v. (g.D.Disk.told c.apply.new.disk).calls ≤ (g.D.Disk.told v.disk).calls + most_calls (state_of first v) (tapes_in v) c.args.call) c.self.view_is
+    (c.apply.ensures.calls first (origin.calls + 1) was.stood)
 
 pub returns-clause-few : goal.returns-clause-few
 returns-clause-few g c = λ first stands.
     let was = subst (λ v. Stands first (g.D.Disk.told v.origin) (g.D.Disk.told v.disk) v.inside) (sym c.self.view_is) stands in
     let origin = g.D.Disk.told c.self.inside.origin.value in
-    let old = g.D.Disk.told c.self.inside.disk in
     let new = g.D.Disk.told c.apply.new.disk in
-    subst (λ v. OnErr c.apply.result (new.calls ≤ (g.D.Disk.told v.disk).calls + (2 + most_reads (state_of first v) c.args.call))) c.self.view_is
-    (on_error (Goes (2 + most_reads (state_of first (record { disk = c.self.inside.disk; origin = c.self.inside.origin.value; inside = c.self.inside.inside })) c.args.call) old new)
-    (new.calls ≤ old.calls + (2 + most_reads (state_of first (record { disk = c.self.inside.disk; origin = c.self.inside.origin.value; inside = c.self.inside.inside })) c.args.call))
-    (λ h. h.calls) c.apply.result (c.apply.ensures.few first (origin.calls + 1) was.stood))
+    subst (λ v. OnErr c.apply.result (new.calls ≤ (g.D.Disk.told v.disk).calls + (landing_calls (state_of first v) + most_reads (state_of first v) c.args.call))) c.self.view_is
+    (c.apply.ensures.few first (origin.calls + 1) was.stood)
 
 pub returns-clause-still : goal.returns-clause-still
 returns-clause-still g c = λ first stands sure.
@@ -86,3 +79,13 @@ returns-clause-looks g c = λ hears honest.
     let told = subst (λ v. IsTrue (g.D.Disk.told v.disk).honest) (sym c.self.view_is) honest in
     subst (λ v. OnlyLooked (g.D.Disk.told v.disk) (g.D.Disk.told c.apply.new.disk)) c.self.view_is
     ((c.apply.ensures.looks hears was.first (origin.calls + 1) was.stands.stood).looks told)
+
+pub returns-clause-behind : goal.returns-clause-behind
+returns-clause-behind g c = λ first stands takes room sure fits.
+    let was = subst (λ v. Stands first (g.D.Disk.told v.origin) (g.D.Disk.told v.disk) v.inside) (sym c.self.view_is) stands in
+    let origin = g.D.Disk.told c.self.inside.origin.value in
+    let disk = g.D.Disk.told c.self.inside.disk in
+    let none = subst (λ v. (state_of first v).doubt ≡ None) (sym c.self.view_is) sure in
+    c.apply.ensures.behind (nothing_waits first (origin.calls + 1) disk c.self.inside.inside was.stood none) first (origin.calls + 1) was.stood takes
+    (subst (λ v. FitsBehindOthers (state_of first v) (tapes_in v) c.args.call) (sym c.self.view_is) fits)
+    (subst (λ v. HasRoomFor 2 v) (sym c.self.view_is) room)

@@ -1,0 +1,103 @@
+//! A crash at each moment of a change of rows or of a sweep.
+
+use crate::runs::{CHOICES, Standing, advanced, image, run_script, shows, small_disk, standing_on};
+use std::test::Fail;
+use voice_main::Status;
+use voice_outside::Disk;
+
+// A script whose last line makes the change, a look at what a crash left, and what that prints where the change isn't done and where it is.
+const CHANGES: [(&[u8], &[u8], &[u8], &[u8]); 5] = [
+    // The loudest sample of `f20` has 62, that of `z128` 127. As long as the sweep isn't done, the rope has its samples, and its blocks are in use.
+    (
+        b"1 a = record f20\n1 advance 60\n1 sweep 9\n",
+        b"1 length 1\n1 levels 1\n1 record z128\n1 sweep 9\n1 record z128\n",
+        b"1 1 length: number 20\n2 1 levels: peaks 1 62\n3 1 record: no no-room 16 13\n4 1 sweep: swept 0 rows 1 ropes 1\n5 1 record: rope 2 length 128\n",
+        b"1 1 length: no unknown-rope 1\n2 1 levels: no unknown-rope 1\n3 1 record: rope 2 length 128\n4 1 sweep: swept 0 rows 0 ropes\n5 1 record: no no-room 16 0\n",
+    ),
+    (
+        b"1 a = record f20\n1 retain until u a 000000000000001e\n1 advance 30\n1 sweep 9\n",
+        b"1 lookup until u\n1 sweep 9\n1 length 1\n",
+        b"1 1 lookup: found 1 000000000000001e\n2 1 sweep: swept 1 rows 0 ropes\n3 1 length: number 20\n",
+        b"1 1 lookup: no no-interest\n2 1 sweep: swept 0 rows 0 ropes\n3 1 length: number 20\n",
+    ),
+    (
+        b"1 a = record f20\n1 retain held k a 00\n",
+        b"1 lookup held k\n1 retain held k 1 01\n1 lookup held k\n",
+        b"1 1 lookup: no no-interest\n2 1 retain: done\n3 1 lookup: found 1 01\n",
+        b"1 1 lookup: found 1 00\n2 1 retain: no key-taken 1\n3 1 lookup: found 1 00\n",
+    ),
+    (
+        b"1 a = record f20\n1 retain held k a -\n1 advance 60\n1 forget held k\n",
+        b"1 forget held k\n1 advance 119\n1 sweep 9\n1 advance 120\n1 sweep 9\n",
+        b"1 1 forget: done\n2 1 advance: done\n3 1 sweep: swept 0 rows 0 ropes\n4 1 advance: done\n5 1 sweep: swept 0 rows 1 ropes 1\n",
+        b"1 1 forget: no no-interest\n2 1 advance: done\n3 1 sweep: swept 0 rows 0 ropes\n4 1 advance: done\n5 1 sweep: swept 0 rows 1 ropes 1\n",
+    ),
+    (
+        b"1 a = record f20\n1 retain listed m a -\n1 retain listed n a -\n1 census n\n",
+        b"1 lookup listed m\n1 lookup listed n\n",
+        b"1 1 lookup: found 1 -\n2 1 lookup: found 1 -\n",
+        b"1 1 lookup: no no-interest\n2 1 lookup: found 1 -\n",
+    ),
+];
+
+#[test]
+fn a_crash_leaves_the_state_before_a_change_or_after_it(rt: HostRuntime) -> Result<(), Fail> {
+    for (script, look, before, after) in CHANGES {
+        let disk = small_disk(rt.alloc(), 2, &[])?;
+        let (ended, _) = run_script(&rt, rt.alloc(), script, disk)?;
+        assert_eq!(rt; ended.status, Status::Done);
+        let last = ended.disk.calls();
+        for moment in last.saturating_sub(4)..=last {
+            for choice in CHOICES {
+                let left = image(rt.alloc(), &ended.disk, moment, choice)?;
+                let wanted = if shows(last, moment, choice) {
+                    after
+                } else {
+                    before
+                };
+                let (_, text) = run_script(&rt, rt.alloc(), look, left)?;
+                assert_eq!(rt; text.as_slice(), wanted, "moment {moment} choice {choice}");
+            }
+        }
+    }
+    Ok(())
+}
+
+// Before the retain the second area is full of advances, and after it the first one counts again.
+const FULL: Standing = Standing {
+    epoch: 2,
+    left: 0,
+    form: 2,
+    moment: 66,
+};
+
+const SWITCHED: Standing = Standing {
+    epoch: 3,
+    left: 429,
+    form: 2,
+    moment: 66,
+};
+
+// The retain closes the first area's head, writes the area, and opens the head: six calls.
+#[test]
+fn a_crash_in_a_switch_leaves_one_area_or_the_other(rt: HostRuntime) -> Result<(), Fail> {
+    let disk = small_disk(rt.alloc(), 2, &[])?;
+    let (ended, _) = run_script(&rt, rt.alloc(), b"1 record z0\n", disk)?;
+    let disk = advanced(&rt, rt.alloc(), ended.disk, 1, 66)?;
+    let (ended, text) = run_script(&rt, rt.alloc(), b"1 retain held k 1 00\n", disk)?;
+    assert_eq!(rt; text.as_slice(), b"1 1 retain: done\n".as_slice());
+    let last = ended.disk.calls();
+    for moment in last.saturating_sub(6)..=last {
+        for choice in CHOICES {
+            let mut left = image(rt.alloc(), &ended.disk, moment, choice)?;
+            let wanted = if shows(last, moment, choice) {
+                SWITCHED
+            } else {
+                FULL
+            };
+            let found = standing_on(rt.alloc(), &mut left)?;
+            assert_eq!(rt; found, wanted, "moment {moment} choice {choice}");
+        }
+    }
+    Ok(())
+}

@@ -1,0 +1,186 @@
+//! Rows and sweeps in doubt, and their landings.
+
+use crate::runs::{advanced, run_script, small_disk, standing_on};
+use std::alloc::Global;
+use std::sync::Arc;
+use std::test::Fail;
+use voice_disk::MemDisk;
+use voice_main::Status;
+use voice_model::{Call, Reply, Tapes, Why};
+use voice_store::Store;
+use voice_units::Moment;
+
+// Formatting makes the calls 1 to 3, opening 4 to 8, the recording 9 to 14, and the retain 15 to 18.
+const RETAIN: &[u8] =
+    b"1 a = record f20\n1 retain held k a 00\n1 lookup held k\n1 advance 5\n1 lookup held k\n";
+
+const FOUND: &[u8] = b"1 1 lookup: found 1 00\n";
+
+const NONE: &[u8] = b"1 1 lookup: no no-interest\n";
+
+// The calls that fail, what is printed behind the recording, and what a later run finds.
+const RETAINS: [(&[u64], &[u8], &[u8]); 5] = [
+    (
+        &[18],
+        b"2 1 retain: no in-doubt\n3 1 lookup: no no-interest\n4 0 landed: done\n5 1 advance: done\n6 1 lookup: found 1 00\n",
+        FOUND,
+    ),
+    (
+        &[17],
+        b"2 1 retain: no in-doubt\n3 1 lookup: no no-interest\n4 0 landed: done\n5 1 advance: done\n6 1 lookup: found 1 00\n",
+        FOUND,
+    ),
+    (
+        &[18, 19],
+        b"2 1 retain: no in-doubt\n3 1 lookup: no no-interest\n4 1 advance: no disk-fault\n5 1 lookup: no no-interest\n",
+        FOUND,
+    ),
+    (
+        &[17, 18],
+        b"2 1 retain: no in-doubt\n3 1 lookup: no no-interest\n4 1 advance: no disk-fault\n5 1 lookup: no no-interest\n",
+        NONE,
+    ),
+    (
+        &[16],
+        b"2 1 retain: no disk-fault\n3 1 lookup: no no-interest\n4 1 advance: done\n5 1 lookup: no no-interest\n",
+        NONE,
+    ),
+];
+
+#[test]
+fn a_row_in_doubt_lands_before_an_advance(rt: HostRuntime) -> Result<(), Fail> {
+    for (fails, wanted, later) in RETAINS {
+        let disk = small_disk(rt.alloc(), 2, fails)?;
+        let (ended, text) = run_script(&rt, rt.alloc(), RETAIN, disk)?;
+        assert_eq!(rt; ended.status, Status::Done);
+        let behind = text
+            .as_slice()
+            .strip_prefix(b"1 1 record: rope 1 length 20\n".as_slice());
+        assert_eq!(rt; behind, Some(wanted));
+        let (_, text) = run_script(&rt, rt.alloc(), b"1 lookup held k\n", ended.disk)?;
+        assert_eq!(rt; text.as_slice(), later);
+    }
+    Ok(())
+}
+
+// The recording takes each block. It makes the calls 9 to 13, the advance 14 to 17, and the sweep 18 to 21.
+const SWEEP: &[u8] =
+    b"1 record z128\n1 advance 60\n1 sweep 9\n1 length 1\n1 record z1\n1 record z1\n1 length 1\n";
+
+const GONE: &[u8] = b"1 1 length: no unknown-rope 1\n";
+
+const KEPT: &[u8] = b"1 1 length: number 128\n";
+
+// The calls that fail, what is printed from the sweep on, and what a later run finds of rope 1.
+const SWEEPS: [(&[u64], &[u8], &[u8]); 5] = [
+    (
+        &[21],
+        b"3 1 sweep: no in-doubt\n4 1 length: number 128\n5 0 landed: done\n6 1 record: rope 2 length 1\n7 1 record: rope 3 length 1\n8 1 length: no unknown-rope 1\n",
+        GONE,
+    ),
+    (
+        &[20],
+        b"3 1 sweep: no in-doubt\n4 1 length: number 128\n5 0 landed: done\n6 1 record: rope 2 length 1\n7 1 record: rope 3 length 1\n8 1 length: no unknown-rope 1\n",
+        GONE,
+    ),
+    (
+        &[20, 21],
+        b"3 1 sweep: no in-doubt\n4 1 length: number 128\n5 1 record: no disk-fault\n6 0 landed: done\n7 1 record: rope 2 length 1\n8 1 length: no unknown-rope 1\n",
+        GONE,
+    ),
+    (
+        &[20, 21, 22],
+        b"3 1 sweep: no in-doubt\n4 1 length: number 128\n5 1 record: no disk-fault\n6 1 record: no disk-fault\n7 1 length: number 128\n",
+        KEPT,
+    ),
+    (
+        &[19],
+        b"3 1 sweep: no disk-fault\n4 1 length: number 128\n5 1 record: no no-room 1 0\n6 1 record: no no-room 1 0\n7 1 length: number 128\n",
+        KEPT,
+    ),
+];
+
+#[test]
+fn a_sweep_in_doubt_lands_before_a_recording(rt: HostRuntime) -> Result<(), Fail> {
+    for (fails, wanted, later) in SWEEPS {
+        let disk = small_disk(rt.alloc(), 2, fails)?;
+        let (ended, text) = run_script(&rt, rt.alloc(), SWEEP, disk)?;
+        assert_eq!(rt; ended.status, Status::Done);
+        let before = b"1 1 record: rope 1 length 128\n2 1 advance: done\n".as_slice();
+        assert_eq!(rt; text.as_slice().strip_prefix(before), Some(wanted));
+        let (_, text) = run_script(&rt, rt.alloc(), b"1 length 1\n", ended.disk)?;
+        assert_eq!(rt; text.as_slice(), later);
+    }
+    Ok(())
+}
+
+fn open(alloc: Global, disk: MemDisk) -> Result<Store<MemDisk>, Fail> {
+    let Ok(tapes) = Arc::new(alloc, Tapes::new(Vec::new(alloc))) else {
+        return Err(Fail::new("no memory"));
+    };
+    match Store::open(alloc, disk, tapes) {
+        Ok(store) => Ok(store),
+        Err(_) => Err(Fail::new("the disk is refused")),
+    }
+}
+
+// The second opening makes the calls 18 to 22, and the sweep 23 to 26.
+#[test]
+fn blocks_are_free_once_the_sweep_has_landed(rt: HostRuntime) -> Result<(), Fail> {
+    for fails in [[25], [26]] {
+        let disk = small_disk(rt.alloc(), 2, &fails)?;
+        let script = b"1 record z128\n1 advance 60\n";
+        let (ended, _) = run_script(&rt, rt.alloc(), script, disk)?;
+        let mut store = open(rt.alloc(), ended.disk)?;
+        assert_eq!(rt; store.free(), 0);
+        let reply = store.apply(1, Call::Sweep(9))?;
+        assert!(rt; matches!(&reply, Reply::No(Why::InDoubt)));
+        assert_eq!(rt; store.free(), 0);
+        let reply = store.apply(1, Call::Advance(Moment(60)))?;
+        assert!(rt; matches!(&reply, Reply::Done));
+        assert_eq!(rt; store.free(), 16);
+        assert_eq!(rt; store.history().len(), 3);
+    }
+    Ok(())
+}
+
+// The first 35 advances make the calls up to 148, the second opening 149 to 153, and the switch 154 to 157.
+const SWITCH: &[u8] = b"1 advance 36\n1 advance 0\n1 advance 37\n";
+
+// The call that fails, what is printed, and what is left of the second area then. Where the switch is in doubt it lands before an advance that changes nothing.
+const SWITCHES: [(u64, &[u8], u64); 4] = [
+    (
+        154,
+        b"1 1 advance: no disk-fault\n2 1 advance: done\n3 1 advance: done\n",
+        473,
+    ),
+    (
+        155,
+        b"1 1 advance: no disk-fault\n2 1 advance: done\n3 1 advance: done\n",
+        473,
+    ),
+    (
+        156,
+        b"1 1 advance: no in-doubt\n2 0 landed: done\n3 1 advance: done\n4 1 advance: done\n",
+        459,
+    ),
+    (
+        157,
+        b"1 1 advance: no in-doubt\n2 0 landed: done\n3 1 advance: done\n4 1 advance: done\n",
+        459,
+    ),
+];
+
+#[test]
+fn a_switch_in_doubt_lands(rt: HostRuntime) -> Result<(), Fail> {
+    for (call, wanted, left) in SWITCHES {
+        let disk = small_disk(rt.alloc(), 2, &[call])?;
+        let disk = advanced(&rt, rt.alloc(), disk, 1, 35)?;
+        let (ended, text) = run_script(&rt, rt.alloc(), SWITCH, disk)?;
+        assert_eq!(rt; text.as_slice(), wanted);
+        let mut disk = ended.disk;
+        let found = standing_on(rt.alloc(), &mut disk)?;
+        assert_eq!(rt; (found.epoch, found.left, found.moment), (2, left, 37));
+    }
+    Ok(())
+}

@@ -1,0 +1,122 @@
+//! Runs of scripts over disks in memory, and what stands on a disk then.
+
+use disk_uses::steps::format;
+use recovery::replay;
+use std::alloc::Global;
+use std::sync::Wait;
+use std::test::Fail;
+use std::thread::Threads;
+use voice_disk::{MemDisk, image_of};
+use voice_journal::Journal;
+use voice_main::{Ended, Status, run};
+use voice_model::Reply;
+use voice_outside::{Disk, MemShelf, MemSink, OpenGate};
+use voice_units::Name;
+
+/// The files of a run.
+pub type Files = Vec<(Name, Vec<u8>)>;
+
+/// Runs these words over files and a disk, and gives how it ended and what was printed.
+pub fn run_words<R: Threads + Wait + Sync>(
+    rt: &R,
+    alloc: Global,
+    asked: &[&str],
+    files: Files,
+    disk: MemDisk,
+) -> Result<(Ended<MemDisk>, Vec<u8>), Fail> {
+    let mut words = Vec::new(alloc);
+    for word in asked {
+        words.push(String::from_str(alloc, word)?)?;
+    }
+    let mut shelf = MemShelf::new(alloc, files, Vec::new(alloc));
+    let mut sink = MemSink::new(alloc, Vec::new(alloc));
+    let ended = run(rt, alloc, &words, &mut shelf, &mut sink, disk, &OpenGate);
+    let text = sink.bytes().to_vec(alloc)?;
+    Ok((ended, text))
+}
+
+/// Runs a script over a disk. Its files are `f20`, the letters from A to T, and `z0`, `z1` and `z128` of so many bytes 0x80.
+pub fn run_script<R: Threads + Wait + Sync>(
+    rt: &R,
+    alloc: Global,
+    script: &[u8],
+    disk: MemDisk,
+) -> Result<(Ended<MemDisk>, Vec<u8>), Fail> {
+    let mut files = Vec::new(alloc);
+    files.push((Name::new(b"s")?, script.to_vec(alloc)?))?;
+    files.push((Name::new(b"f20")?, b"ABCDEFGHIJKLMNOPQRST".to_vec(alloc)?))?;
+    files.push((Name::new(b"z0")?, Vec::new(alloc)))?;
+    files.push((Name::new(b"z1")?, b"\x80".to_vec(alloc)?))?;
+    files.push((Name::new(b"z128")?, vec![in alloc; 0x80; 128]?))?;
+    run_words(rt, alloc, &["run", "s"], files, disk)
+}
+
+/// A disk of 4,096 bytes of that version: blocks of 8, 16 of them, areas of 512, graces of 60, 4 lanes. The listed calls fail, of which the first three are those of formatting.
+pub fn small_disk(alloc: Global, version: u32, fails: &[u64]) -> Result<MemDisk, Fail> {
+    let mut disk = MemDisk::new(alloc, 4096, fails.to_vec(alloc)?)?;
+    let _did = format(&mut disk, version);
+    Ok(disk)
+}
+
+/// Advances to each moment from one to another, and gives the disk where each advance was done.
+pub fn advanced<R: Threads + Wait + Sync>(
+    rt: &R,
+    alloc: Global,
+    disk: MemDisk,
+    from: u64,
+    to: u64,
+) -> Result<MemDisk, Fail> {
+    let mut script = Vec::new(alloc);
+    for moment in from..=to {
+        let line = format!(in alloc; "1 advance {moment}\n")?;
+        script.extend_from_slice(line.as_bytes())?;
+    }
+    let (ended, _) = run_script(rt, alloc, &script, disk)?;
+    let done = ended
+        .history
+        .iter()
+        .filter(|entry| matches!(&entry.reply, Reply::Done))
+        .count();
+    if ended.status != Status::Done || from.saturating_add(done as u64) != to.saturating_add(1) {
+        return Err(Fail::new("an advance was not done"));
+    }
+    Ok(ended.disk)
+}
+
+/// What stands on a disk: the epoch of its journal, the bytes that are left there, the form, and the moment.
+#[derive(Clone, Copy, Debug, PartialEq, Eq)]
+pub struct Standing {
+    pub epoch: u64,
+    pub left: u64,
+    pub form: u8,
+    pub moment: u64,
+}
+
+/// What stands on a disk that opens.
+pub fn standing_on(alloc: Global, disk: &mut MemDisk) -> Result<Standing, Fail> {
+    let opened = Journal::open(alloc, disk)?;
+    let parts = replay(alloc, &opened.journal.shape(), &opened.payloads)?;
+    Ok(Standing {
+        epoch: opened.journal.epoch(),
+        left: opened.journal.left(),
+        form: parts.form,
+        moment: parts.moment.0,
+    })
+}
+
+/// The disk that a crash leaves: at a moment, with a choice of what isn't settled.
+pub fn image(alloc: Global, disk: &MemDisk, moment: u64, choice: u16) -> Result<MemDisk, Fail> {
+    if moment > disk.calls() {
+        return Err(Fail::new("no such moment"));
+    }
+    let bytes = image_of(alloc, disk, moment, choice)?;
+    Ok(MemDisk::of(alloc, bytes, Vec::new(alloc))?)
+}
+
+/// What may stand in place of bytes that aren't settled: what was there, what was written, and two other bytes.
+pub const CHOICES: [u16; 4] = [0, 1, 7, 255];
+
+/// Whether a change that was acknowledged at a moment shows in an image of an earlier one: the call before was its gate's write, and only the byte that this writes opens the gate.
+pub fn shows(ack: u64, moment: u64, choice: u16) -> bool {
+    moment >= ack || choice == 1 && ack - moment <= 2
+}

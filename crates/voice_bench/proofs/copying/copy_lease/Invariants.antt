@@ -1,5 +1,0 @@
-use Rattle.std.proofs.Common.{◌≡◌}
-use Rattle.voice_bench.proofs.copying.copy_lease.Given as goal
-
-abbrev pub invariant-copies : goal.invariant-copies
-invariant-copies l = l.lease ≡ l.initial.lease

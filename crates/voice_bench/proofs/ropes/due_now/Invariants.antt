@@ -1,4 +1,0 @@
-use Rattle.voice_bench.proofs.ropes.due_now.Given as goal
-
-abbrev pub ghosts-due_at : goal.ghosts-due_at
-ghosts-due_at a = record { name = a.blank.name; parts = a.blank.parts }

@@ -1,6 +1,0 @@
-use Rattle.std.proofs.Common.{◌≡◌, false}
-use Rattle.rope_table.specs.Table.{Every}
-use Rattle.voice_bench.proofs.ropes.put_some.Given as goal
-
-abbrev pub invariant-loop-k : goal.invariant-loop-k
-invariant-loop-k l = Every (λ rope. rope.kept ≡ false) l.table.ropes

@@ -1,5 +1,0 @@
-use Rattle.voice_bench.proofs.Single.{free_without}
-use Rattle.voice_bench.proofs.ropes.remove_some.Goals as goal
-
-pub loop-k-preserved : goal.loop-k-preserved
-loop-k-preserved c = free_without c.from-in-loop-k.result c.loop-k.table.ropes c.remove-pieces.new.self.ropes c.remove-pieces.ensures.ropes c.loop-k.invariant
