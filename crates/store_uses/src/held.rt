@@ -15,9 +15,13 @@ const SCRIPT: &[u8] = b"2 a = record z8\n1 b = record z1\n1 c = concat b b\n2 d 
 // So often a caller looks at most before it goes on all the same.
 const LIMIT: u32 = 1_000_000;
 
+// So often a caller lets other threads run before it looks again, where another thread is to come: many seconds, since a loaded machine may hold a thread back for long.
+const YIELDS: u32 = 100;
+
 /// A gate that lets a line wait for another one, and keeps what it was told.
 #[derive(Drop)]
 struct Meeting {
+    yields: u32,
     done: [AtomicBool; 5],
     late: AtomicBool,
     told: [AtomicU32; 16],
@@ -25,8 +29,10 @@ struct Meeting {
 }
 
 impl Meeting {
-    fn new() -> Meeting {
+    // Whose callers let other threads run so often between two looks.
+    fn new(yields: u32) -> Meeting {
         Meeting {
+            yields,
             done: [
                 AtomicBool::new(false),
                 AtomicBool::new(false),
@@ -74,7 +80,9 @@ impl Meeting {
             if self.done[line % 5].load(Ordering::SeqCst) {
                 return;
             }
-            thread::yield_now();
+            for _ in 0..self.yields {
+                thread::yield_now();
+            }
         }
         self.late.store(true, Ordering::SeqCst);
     }
@@ -123,7 +131,7 @@ fn begins_with(history: &[Entry], callers: &[u16]) -> bool {
 #[test]
 fn callers_that_wait_for_one_another_end(rt: HostRuntime) -> Result<(), Fail> {
     for _ in 0..20 {
-        let gate = Meeting::new();
+        let gate = Meeting::new(YIELDS);
         let disk = small_disk(rt.alloc(), 2, &[])?;
         let words = ["run", "s", "--threads"];
         let (ended, _text) = run_gated(&rt, rt.alloc(), &words, SCRIPT, disk, &gate)?;
@@ -138,7 +146,7 @@ fn callers_that_wait_for_one_another_end(rt: HostRuntime) -> Result<(), Fail> {
 
 #[test]
 fn one_thread_keeps_them_waiting(rt: HostRuntime) -> Result<(), Fail> {
-    let gate = Meeting::new();
+    let gate = Meeting::new(1);
     let disk = small_disk(rt.alloc(), 2, &[])?;
     let (ended, _text) = run_gated(&rt, rt.alloc(), &["run", "s"], SCRIPT, disk, &gate)?;
     assert_eq!(rt; ended.status, Status::Done);
