@@ -15,6 +15,3 @@ pub use errors::GetError;
 pub use getting::get;
 pub use putting::{put, size};
 pub use short::{SHORT, advanced_bytes, forgotten_bytes};
-
-#[cfg(test)]
-mod tests;

@@ -3,8 +3,6 @@
 
 mod releasing;
 mod sweeping;
-#[cfg(test)]
-mod tests;
 
 pub use releasing::{Freed, drop_unused, release};
 pub use sweeping::first;

@@ -11,6 +11,3 @@ pub use cutting::{replace, sub};
 pub use joining::concat;
 pub use lookups::length;
 pub use made::Made;
-
-#[cfg(test)]
-mod tests;

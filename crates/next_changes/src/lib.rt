@@ -17,6 +17,3 @@ pub enum NextChange {
     Rope(NextRope),
     Other(ReadyChange),
 }
-
-#[cfg(test)]
-mod tests;

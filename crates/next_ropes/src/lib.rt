@@ -22,6 +22,3 @@ pub struct NextRope {
     pub addresses: Vec<u32>,
     pub payload: Vec<u8>,
 }
-
-#[cfg(test)]
-mod tests;

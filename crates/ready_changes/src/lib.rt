@@ -37,6 +37,3 @@ pub struct ReadyChange {
     pub act: Act,
     pub payload: Payload,
 }
-
-#[cfg(test)]
-mod tests;

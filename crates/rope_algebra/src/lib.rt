@@ -7,6 +7,3 @@ mod runs;
 mod starts;
 
 pub use algebra::Pieces;
-
-#[cfg(test)]
-mod tests;

@@ -7,8 +7,6 @@ mod dues;
 mod files;
 mod ropes;
 mod table;
-#[cfg(test)]
-mod tests;
 
 pub use dues::Due;
 pub use rope_algebra::Pieces;

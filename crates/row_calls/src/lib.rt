@@ -16,6 +16,3 @@ pub use forgetting::ask_forget;
 pub use outcomes::{Asked, Growth};
 pub use retaining::ask_retain;
 pub use sweeping::ask_sweep;
-
-#[cfg(test)]
-mod tests;

@@ -7,6 +7,3 @@ mod made;
 mod samples;
 
 pub use made::make;
-
-#[cfg(test)]
-mod tests;

@@ -19,11 +19,8 @@ mod words;
 
 pub use forms::is_file;
 pub use labels::{Boxed, Label};
-pub use reader::parse;
+pub use reader::{parse, parse_by};
 pub use scripts::{ArgList, Cause, Line, RopeArg, Script, ScriptError, Verb};
 pub use text::entry_text;
 pub use variables::{Env, resolve};
-pub use verbs::VerbName;
-
-#[cfg(test)]
-mod tests;
+pub use verbs::{Built, VerbName};

@@ -1,5 +1,0 @@
-use Rattle.recovery.specs.Shown.{IsParts}
-use Rattle.ready_changes.proofs.tests.filled.Given as goal
-
-abbrev pub invariant-ropes : goal.invariant-ropes
-invariant-ropes l = IsParts l.shape l.parts

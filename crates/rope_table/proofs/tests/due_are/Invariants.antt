@@ -1,4 +1,0 @@
-use Rattle.rope_table.proofs.tests.due_are.Given as goal
-
-abbrev pub ghosts-are_due : goal.ghosts-are_due
-ghosts-are_due a = record { name = a.blank.name; parts = a.blank.parts }
