@@ -5,7 +5,5 @@ mod chunk;
 mod row;
 mod search;
 mod steps;
-#[cfg(test)]
-mod tests;
 
 pub use row::CountedRow;

@@ -12,6 +12,3 @@ mod tally;
 pub use going::key_set;
 pub use rows::{AddError, InterestTable};
 pub use voice_model::Row;
-
-#[cfg(test)]
-mod tests;

@@ -1,8 +1,10 @@
 //! A table of interests through a day: what stands, what is obsolete, and in which order.
 
-use super::{AddError, InterestTable, key_set};
+use crate::asserts::{assert_four, assert_number};
+use interest_table::{AddError, InterestTable, key_set};
 use std::alloc::Global;
 use std::collections::HashSet;
+use std::process::Abort;
 use std::test::Fail;
 use voice_model::{Class, Key, KeyList, Note, Row};
 use voice_units::{Moment, NoMemory, RopeId};
@@ -77,24 +79,18 @@ fn rope_at(table: &InterestTable, k: u32) -> u64 {
 }
 
 // How many rows are expired at a moment.
-fn expired(table: &InterestTable, moment: u32) -> Result<usize, NoMemory> {
+fn expired(table: &InterestTable, moment: u32) -> Result<u64, NoMemory> {
     let keys = table.obsolete_until(Moment(u64::from(moment)))?;
-    Ok(keys.items().len())
+    Ok(keys.items().len() as u64)
 }
 
-fn expiries(table: &InterestTable) -> Result<[usize; 4], NoMemory> {
-    Ok([
-        expired(table, 29)?,
-        expired(table, 30)?,
-        expired(table, 255)?,
-        expired(table, 256)?,
-    ])
-}
-
-// How many rows a census drops that names these keys.
-fn unlisted(table: &InterestTable, named: &KeyList) -> Result<usize, NoMemory> {
-    let keys = table.obsolete_listed(named)?;
-    Ok(keys.items().len())
+// One row is expired from moment 30 on, the other from 256 on.
+fn assert_expired(rt: &impl Abort, table: &InterestTable) -> Result<(), NoMemory> {
+    for (moment, wanted) in [(29, 0), (30, 1), (255, 1), (256, 2)] {
+        let found = expired(table, moment)?;
+        assert_number(rt, found, wanted);
+    }
+    Ok(())
 }
 
 fn named(alloc: Global, key: &[u8]) -> Result<KeyList, NoMemory> {
@@ -106,11 +102,20 @@ fn named(alloc: Global, key: &[u8]) -> Result<KeyList, NoMemory> {
     Ok(KeyList::of(named))
 }
 
-// The same where it names one key alone, of class Listed or of another.
-fn unlisted_each(alloc: Global, table: &InterestTable) -> Result<[usize; 2], NoMemory> {
-    let listed = unlisted(table, &named(alloc, b"n")?)?;
-    let held = unlisted(table, &named(alloc, b"h")?)?;
-    Ok([listed, held])
+// How many rows a census drops that names this key alone.
+fn unlisted(alloc: Global, table: &InterestTable, key: &[u8]) -> Result<u64, NoMemory> {
+    let named = named(alloc, key)?;
+    let keys = table.obsolete_listed(&named)?;
+    Ok(keys.items().len() as u64)
+}
+
+// A key of class Listed leaves one row of that class; one of another class leaves both.
+fn assert_unlisted(rt: &impl Abort, alloc: Global, table: &InterestTable) -> Result<(), NoMemory> {
+    let listed = unlisted(alloc, table, b"n")?;
+    let held = unlisted(alloc, table, b"h")?;
+    assert_number(rt, listed, 1);
+    assert_number(rt, held, 2);
+    Ok(())
 }
 
 // A call of a table.
@@ -169,18 +174,23 @@ fn ropes_of(table: &InterestTable) -> [u64; 4] {
     ]
 }
 
-fn ropes_of_copy(table: &InterestTable) -> Result<[u64; 4], NoMemory> {
+// A copy has the same ropes.
+fn assert_copy(rt: &impl Abort, table: &InterestTable, wanted: [u64; 4]) -> Result<(), Fail> {
     let copy = table.copy()?;
-    Ok(ropes_of(&copy))
+    assert_four(rt, ropes_of(&copy), wanted);
+    Ok(())
+}
+
+fn assert_in_order(rt: &impl Abort, table: &mut InterestTable) -> Result<(), Fail> {
+    assert_number(rt, wrong_in_order(table), 0);
+    assert_four(rt, ropes_of(table), [2, 1, 0, 1]);
+    assert_copy(rt, table, [2, 1, 0, 1])
 }
 
 #[test]
 fn rows_stand_in_order(rt: HostRuntime) -> Result<(), Fail> {
     let mut table = InterestTable::new(rt.alloc());
-    assert_eq!(rt; wrong_in_order(&mut table), 0);
-    assert_eq!(rt; ropes_of(&table), [2, 1, 0, 1]);
-    assert_eq!(rt; ropes_of_copy(&table)?, [2, 1, 0, 1]);
-    Ok(())
+    assert_in_order(&rt, &mut table)
 }
 
 // How many of these rows are refused.
@@ -205,15 +215,22 @@ fn fill(table: &mut InterestTable) -> u64 {
     fill_with(table, &rows)
 }
 
-// A row of class Until goes at its moment; one of class Listed where no census names it; one of class Held never.
-#[test]
-fn obsolete_rows(rt: HostRuntime) -> Result<(), Fail> {
-    let mut table = InterestTable::new(rt.alloc());
+// The rows come where there is room for them. One of class Until goes at its moment; one of class Listed where no census names it; one of class Held never.
+fn assert_obsolete(
+    rt: &impl Abort,
+    alloc: Global,
+    table: &mut InterestTable,
+) -> Result<(), NoMemory> {
     table.reserve(5)?;
-    assert_eq!(rt; fill(&mut table), 0);
-    assert_eq!(rt; expiries(&table)?, [0, 1, 1, 2]);
-    assert_eq!(rt; unlisted_each(rt.alloc(), &table)?, [1, 2]);
-    Ok(())
+    assert_number(rt, fill(table), 0);
+    assert_expired(rt, table)?;
+    assert_unlisted(rt, alloc, table)
+}
+
+#[test]
+fn obsolete_rows(rt: HostRuntime) -> Result<(), NoMemory> {
+    let mut table = InterestTable::new(rt.alloc());
+    assert_obsolete(&rt, rt.alloc(), &mut table)
 }
 
 // The bytes of keys and of notes, the rows of rope 2, and the rope of the third row.
@@ -240,19 +257,19 @@ fn set_of(alloc: Global, key: &[u8]) -> Result<HashSet<Key>, NoMemory> {
     key_set(alloc, &[key])
 }
 
-fn sizes_unlisted(alloc: Global) -> Result<[u64; 4], NoMemory> {
-    let named = set_of(alloc, b"n")?;
+fn sizes_unlisted(alloc: Global, named: &HashSet<Key>) -> [u64; 4] {
     let mut table = InterestTable::new(alloc);
     fill(&mut table);
-    table.remove_all(Class::Listed, &named);
-    Ok(sizes_of(&table))
+    table.remove_all(Class::Listed, named);
+    sizes_of(&table)
 }
 
 // Rows that go in one pass leave the others in order and counted.
 #[test]
 fn rows_go_at_once(rt: HostRuntime) -> Result<(), Fail> {
-    assert_eq!(rt; sizes_expired(rt.alloc()), [4, 16, 3, 2]);
-    assert_eq!(rt; sizes_unlisted(rt.alloc())?, [4, 24, 2, 1]);
+    assert_four(&rt, sizes_expired(rt.alloc()), [4, 16, 3, 2]);
+    let named = set_of(rt.alloc(), b"n")?;
+    assert_four(&rt, sizes_unlisted(rt.alloc(), &named), [4, 24, 2, 1]);
     Ok(())
 }
 
@@ -278,12 +295,13 @@ fn ropes_until(table: &InterestTable, moment: u32) -> Result<u64, NoMemory> {
     Ok(digits)
 }
 
-fn ropes_by_moment(table: &InterestTable) -> Result<[u64; 3], NoMemory> {
-    Ok([
-        ropes_until(table, 6)?,
-        ropes_until(table, 7)?,
-        ropes_until(table, 9)?,
-    ])
+// The ropes by moment 6, 7 and 9.
+fn assert_until(rt: &impl Abort, table: &InterestTable) -> Result<(), NoMemory> {
+    for (moment, wanted) in [(6, 0), (7, 14), (9, 3142)] {
+        let ropes = ropes_until(table, moment)?;
+        assert_number(rt, ropes, wanted);
+    }
+    Ok(())
 }
 
 // The first three ropes and the count of the first, once the rows until a moment went.
@@ -292,16 +310,19 @@ fn ropes_after(table: &mut InterestTable, moment: u32) -> [u64; 4] {
     ropes_of(table)
 }
 
+fn assert_by_moment(rt: &impl Abort, table: &mut InterestTable) -> Result<(), NoMemory> {
+    assert_number(rt, fill_moments(table), 0);
+    assert_until(rt, table)?;
+    assert_four(rt, ropes_after(table, 8), [3, 5, 2, 0]);
+    assert_four(rt, ropes_after(table, 9), [5, 0, 0, 0]);
+    Ok(())
+}
+
 // Rows that are expired are told in order of making, however their moments stand.
 #[test]
-fn rows_go_by_moment(rt: HostRuntime) -> Result<(), Fail> {
+fn rows_go_by_moment(rt: HostRuntime) -> Result<(), NoMemory> {
     let mut table = InterestTable::new(rt.alloc());
-    assert_eq!(rt; fill_moments(&mut table), 0);
-    assert_eq!(rt; ropes_by_moment(&table)?, [0, 14, 3142]);
-    for (moment, wanted) in [(8, [3, 5, 2, 0]), (9, [5, 0, 0, 0])] {
-        assert_eq!(rt; ropes_after(&mut table, moment), wanted);
-    }
-    Ok(())
+    assert_by_moment(&rt, &mut table)
 }
 
 // A row comes under the bytes of its number.
@@ -358,12 +379,15 @@ fn order_of(table: &InterestTable) -> [u64; 4] {
 }
 
 // A row that comes again in the place of one that went is the last.
+fn assert_many(rt: &impl Abort, table: &mut InterestTable) {
+    assert_number(rt, fill_many(table), 0);
+    assert_four(rt, remove_some(table), [1, 501, 1000, 0]);
+    assert_number(rt, add_number(table, 500), 0);
+    assert_four(rt, order_of(table), [0, 0, 501, 0]);
+}
+
 #[test]
-fn many_rows_keep_their_order(rt: HostRuntime) -> Result<(), Fail> {
+fn many_rows_keep_their_order(rt: HostRuntime) {
     let mut table = InterestTable::new(rt.alloc());
-    assert_eq!(rt; fill_many(&mut table), 0);
-    assert_eq!(rt; remove_some(&mut table), [1, 501, 1000, 0]);
-    assert_eq!(rt; add_number(&mut table, 500), 0);
-    assert_eq!(rt; order_of(&table), [0, 0, 501, 0]);
-    Ok(())
+    assert_many(&rt, &mut table);
 }
