@@ -97,27 +97,72 @@ impl Records {
         Ok(())
     }
 
-    // Adds some changes of a kind, the ones of this number, behind the recordings. A row names the newest rope.
+    // Adds the recording of a block.
+    fn add_recording(&mut self, alloc: Global, id: u64, address: u32) -> Result<(), NoMemory> {
+        let spelling = recorded(alloc, id, address)?;
+        self.add(alloc, &spelling)
+    }
+
+    // Adds a rope of eight samples of a file, from a place on.
+    fn add_edit(&mut self, alloc: Global, id: u64, file: u64, from: u32) -> Result<(), NoMemory> {
+        let spelling = edited(alloc, id, file, from)?;
+        self.add(alloc, &spelling)
+    }
+
+    // Adds a row.
+    fn add_row(&mut self, alloc: Global, key: u64, rope: u64) -> Result<(), NoMemory> {
+        let spelling = retained(alloc, key, rope)?;
+        self.add(alloc, &spelling)
+    }
+
+    // Adds a row's end.
+    fn end_row(&mut self, alloc: Global, key: u64) -> Result<(), NoMemory> {
+        let spelling = named(alloc, 4, key)?;
+        self.add(alloc, &spelling)
+    }
+
+    // Adds a moment.
+    fn add_moment(&mut self, alloc: Global, moment: u64) -> Result<(), NoMemory> {
+        let spelling = begun(alloc, 7, moment)?;
+        self.add(alloc, &spelling)
+    }
+
+    // Adds the edit of this number behind the recordings.
+    fn add_numbered(&mut self, alloc: Global, number: u32) -> Result<(), NoMemory> {
+        let next = u64::from(FILES + 1) + u64::from(number);
+        let file = one_below(number, u64::from(FILES + 1));
+        self.add_edit(alloc, next, file, number % 1000)
+    }
+
+    // Adds a change of each kind, the ones of this number. The row that comes and goes names the newest rope.
+    fn add_mixed(&mut self, alloc: Global, number: u32) -> Result<(), NoMemory> {
+        let moment = u64::from(number) + 1;
+        self.add_moment(alloc, moment)?;
+        self.add_row(alloc, moment, u64::from(FILES) + u64::from(number))?;
+        self.add_numbered(alloc, number)?;
+        self.end_row(alloc, moment)
+    }
+
+    // Adds some changes of a kind, the ones of this number, behind the recordings.
     fn add_some(&mut self, alloc: Global, kind: Kind, number: u32) -> Result<(), NoMemory> {
         let moment = u64::from(number) + 1;
-        let next = u64::from(FILES + 1) + u64::from(number);
-        let newest = if let Kind::Mixed = kind {
-            next - 1
-        } else {
-            u64::from(FILES)
-        };
-        if let Kind::Moments | Kind::Mixed = kind {
-            self.add(alloc, &begun(alloc, 7, moment)?)?;
+        match kind {
+            Kind::Moments => self.add_moment(alloc, moment),
+            Kind::Interests => {
+                self.add_row(alloc, moment, u64::from(FILES))?;
+                self.end_row(alloc, moment)
+            }
+            Kind::Edits => self.add_numbered(alloc, number),
+            Kind::Mixed => self.add_mixed(alloc, number),
         }
-        if let Kind::Interests | Kind::Mixed = kind {
-            self.add(alloc, &retained(alloc, moment, newest)?)?;
-        }
-        if let Kind::Edits | Kind::Mixed = kind {
-            let file = one_below(number, u64::from(FILES + 1));
-            self.add(alloc, &edited(alloc, next, file, number % 1000)?)?;
-        }
-        if let Kind::Interests | Kind::Mixed = kind {
-            self.add(alloc, &named(alloc, 4, moment)?)?;
+    }
+
+    // Adds four edits of a day of mail.
+    fn add_edits(&mut self, alloc: Global, next: u64, number: u32) -> Result<(), NoMemory> {
+        for more in 0..4 {
+            let file = one_below(number.wrapping_add(more), u64::from(FILES + 1));
+            let id = next.wrapping_add(u64::from(more));
+            self.add_edit(alloc, id, file, number % 1000)?;
         }
         Ok(())
     }
@@ -126,35 +171,35 @@ impl Records {
     fn add_mail(&mut self, alloc: Global, number: u32) -> Result<(), NoMemory> {
         let next = u64::from(FILES + 1) + 4 * u64::from(number);
         let key = 2 * u64::from(number) + 1;
-        for more in 0..4 {
-            let file = one_below(number.wrapping_add(more), u64::from(FILES + 1));
-            self.add(
-                alloc,
-                &edited(alloc, next + u64::from(more), file, number % 1000)?,
-            )?;
-        }
-        self.add(alloc, &retained(alloc, key, next + 1)?)?;
-        self.add(alloc, &retained(alloc, key + 1, next + 3)?)?;
-        self.add(alloc, &named(alloc, 4, u64::from(number) + 1)?)?;
-        self.add(alloc, &begun(alloc, 7, u64::from(number) + 1)?)
+        self.add_edits(alloc, next, number)?;
+        self.add_row(alloc, key, next + 1)?;
+        self.add_row(alloc, key + 1, next + 3)?;
+        self.end_row(alloc, u64::from(number) + 1)?;
+        self.add_moment(alloc, u64::from(number) + 1)
     }
 
     // Adds the recording of a block, two parts of it, and a row for one of them.
     fn add_ropes(&mut self, alloc: Global, number: u32) -> Result<(), NoMemory> {
         let file = 3 * u64::from(number) + 1;
-        self.add(alloc, &recorded(alloc, file, number)?)?;
-        self.add(alloc, &edited(alloc, file + 1, file, 0)?)?;
-        self.add(alloc, &edited(alloc, file + 2, file, 100)?)?;
-        self.add(alloc, &retained(alloc, file, file + 1)?)
+        self.add_recording(alloc, file, number)?;
+        self.add_edit(alloc, file + 1, file, 0)?;
+        self.add_edit(alloc, file + 2, file, 100)?;
+        self.add_row(alloc, file, file + 1)
+    }
+
+    // Records with the recordings that come before the changes of a kind.
+    fn with_files(alloc: Global) -> Result<Records, NoMemory> {
+        let mut records = Records::new(alloc);
+        for number in 0..FILES {
+            records.add_recording(alloc, u64::from(number) + 1, number)?;
+        }
+        Ok(records)
     }
 }
 
 /// Changes of a kind, whose payloads have at least so many bytes: 4,096 recordings, and then moments, rows that come and go, edits of eight samples, or all of these by turns. Edits name files all over.
 pub fn changes_of(alloc: Global, kind: Kind, bytes: u64) -> Result<Records, NoMemory> {
-    let mut records = Records::new(alloc);
-    for number in 0..FILES {
-        records.add(alloc, &recorded(alloc, u64::from(number) + 1, number)?)?;
-    }
+    let mut records = Records::with_files(alloc)?;
     for number in 0..u32::MAX - FILES {
         if records.size >= bytes {
             return Ok(records);
@@ -175,10 +220,7 @@ pub fn changes_to(alloc: Global, ropes: u32) -> Result<Records, NoMemory> {
 
 /// So many changes of mail that is kept and forgotten, the oldest first, behind 4,096 recordings: half of them edits, a quarter rows that come, an eighth the oldest row that goes, an eighth moments.
 pub fn mail_of(alloc: Global, changes: u32) -> Result<Records, NoMemory> {
-    let mut records = Records::new(alloc);
-    for number in 0..FILES {
-        records.add(alloc, &recorded(alloc, u64::from(number) + 1, number)?)?;
-    }
+    let mut records = Records::with_files(alloc)?;
     for number in 0..changes / 8 {
         records.add_mail(alloc, number)?;
     }

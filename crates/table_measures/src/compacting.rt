@@ -31,6 +31,14 @@ fn time_base<R: Clock>(rt: &R, alloc: Global, parts: &Parts) -> io::Result<Durat
     Ok(took)
 }
 
+// The same, and how many ropes there are.
+fn time_parts<R: Clock>(rt: &R, alloc: Global, parts: &Parts) -> io::Result<(Duration, usize)>
+    requires shown { (r : Rebuilt) × ShowsUsed parts.now r }
+{
+    let took = time_base(rt, alloc, parts)?;
+    Ok((took, parts.ropes.count()))
+}
+
 // How long a base of what changes rebuild takes to spell, and how many ropes it has.
 fn spell_once<R: Clock>(
     rt: &R,
@@ -44,8 +52,7 @@ fn spell_once<R: Clock>(
     let Ok(parts) = replay(alloc, shape, list) else {
         return Err(io::Error::from(ErrorKind::InvalidData));
     };
-    let took = time_base(rt, alloc, &parts)?;
-    Ok((took, parts.ropes.count()))
+    time_parts(rt, alloc, &parts)
 }
 
 // How long so many bases take, and how many ropes each has.

@@ -6,7 +6,6 @@ use bench_report::report::ratio;
 use change_codec::get;
 use recovery::{Parts, replay};
 use std::alloc::{AllocError, Global};
-use std::hint::black_box;
 use std::io::{self, ErrorKind};
 use std::rt::Clock;
 use std::time::{Duration, Instant};
@@ -90,16 +89,21 @@ fn read_plainly(alloc: Global, list: &[Placed], parts: &Parts) -> u64 {
     sum
 }
 
-// How long reading and looking up took.
+// How long reading and looking up took, behind how long a replay took. Some change is read, and that is looked at so that no reading is left out.
 fn time_plainly<R: Clock>(
     rt: &R,
     alloc: Global,
     list: &[Placed],
     parts: &Parts,
-) -> io::Result<Duration> {
+    replayed: Duration,
+) -> io::Result<(Duration, Duration)> {
     let start = Instant::now(rt)?;
-    let _sum = black_box(read_plainly(alloc, black_box(list), parts));
-    start.elapsed(rt)
+    let sum = read_plainly(alloc, list, parts);
+    let took = start.elapsed(rt)?;
+    if sum == 0 {
+        return Err(io::Error::from(ErrorKind::InvalidData));
+    }
+    Ok((replayed, took))
 }
 
 // How long one replay took, and then reading and looking up.
@@ -110,8 +114,7 @@ fn compare_once<R: Clock>(
     list: &[Placed],
 ) -> io::Result<(Duration, Duration)> {
     let (parts, took) = replay_all(rt, alloc, shape, list)?;
-    let bare = time_plainly(rt, alloc, list, &parts)?;
-    Ok((took, bare))
+    time_plainly(rt, alloc, list, &parts, took)
 }
 
 // How long both take at their best.

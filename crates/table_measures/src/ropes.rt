@@ -198,6 +198,25 @@ fn time_due<R: Clock>(
     Ok(took)
 }
 
+// How long it takes to put in the ropes of a round, and to take as many out. The table has the same ropes after it.
+fn time_coming<R: Clock>(
+    rt: &R,
+    alloc: Global,
+    table: &mut RopeTable,
+    count: u32,
+) -> io::Result<(Duration, Duration)>
+    requires { Every (λ rope. rope.kept ≡ false) table.old.ropes }
+    ensures { Every (λ rope. rope.kept ≡ false) table.new.ropes }
+{
+    let apart = count / u32::from(SOME);
+    let behind = count.wrapping_add(1);
+    let add = time_put(rt, alloc, table, behind)?;
+    let remove = time_remove(rt, table, apart)?;
+    remove_some(table, behind, 1);
+    put_round(alloc, table, 1, apart)?;
+    Ok((add, remove))
+}
+
 // How long a round of each call takes at so many ropes. The table has the same ropes after it.
 fn round<R: Clock>(
     rt: &R,
@@ -210,13 +229,8 @@ fn round<R: Clock>(
     requires none { interests.now.rows ≡ [] }
     ensures { Every (λ rope. rope.kept ≡ false) table.new.ropes }
 {
-    let apart = count / u32::from(SOME);
-    let behind = count.wrapping_add(1);
-    let add = time_put(rt, alloc, table, behind)?;
-    let remove = time_remove(rt, table, apart)?;
-    remove_some(table, behind, 1);
-    put_round(alloc, table, 1, apart)?;
-    let slice = time_slice(rt, table, apart)?;
+    let (add, remove) = time_coming(rt, alloc, table, count)?;
+    let slice = time_slice(rt, table, count / u32::from(SOME))?;
     let first = time_due(rt, alloc, table, interests)?;
     Ok(Times {
         add,
@@ -285,16 +299,30 @@ fn time_keeps<R: Clock>(rt: &R, table: &mut RopeTable, apart: u32) -> io::Result
     start.elapsed(rt)
 }
 
-// How long all rounds of each call take at a new table of so many ropes, and those of a row that comes and goes.
+// How long all rounds of each call take once so many ropes came to a table, and those of a row that comes and goes.
+fn fill_and_time<R: Clock>(
+    rt: &R,
+    alloc: Global,
+    table: &mut RopeTable,
+    interests: &InterestTable,
+    count: u32,
+) -> io::Result<(Times, Duration)>
+    requires free { Every (λ rope. rope.kept ≡ false) table.old.ropes }
+    requires none { interests.now.rows ≡ [] }
+{
+    if put_some(alloc, table, 1, 1, count).is_err() {
+        return Err(io::Error::from(AllocError));
+    }
+    let times = rounds(rt, alloc, table, interests, count)?;
+    let keep = time_keeps(rt, table, count / u32::from(SOME))?;
+    Ok((times, keep))
+}
+
+// The same at a new table.
 fn new_rounds<R: Clock>(rt: &R, alloc: Global, count: u32) -> io::Result<(Times, Duration)> {
     let mut table = RopeTable::new(alloc, BLOCK);
     let interests = InterestTable::new(alloc);
-    if put_some(alloc, &mut table, 1, 1, count).is_err() {
-        return Err(io::Error::from(AllocError));
-    }
-    let times = rounds(rt, alloc, &mut table, &interests, count)?;
-    let keep = time_keeps(rt, &mut table, count / u32::from(SOME))?;
-    Ok((times, keep))
+    fill_and_time(rt, alloc, &mut table, &interests, count)
 }
 
 fn measure_ropes<R: Print + Clock>(rt: &R, alloc: Global, count: u32) -> io::Result<()> {
@@ -336,7 +364,9 @@ fn joined(first: &Pieces, second: &Pieces) -> Result<Pieces, NoMemory> {
 
 // A rope of 4,096 pieces, of two files by turns.
 fn many_pieces(alloc: Global) -> Result<Pieces, NoMemory> {
-    let mut pieces = joined(&one_piece(alloc, RopeId(1))?, &one_piece(alloc, RopeId(2))?)?;
+    let first = one_piece(alloc, RopeId(1))?;
+    let second = one_piece(alloc, RopeId(2))?;
+    let mut pieces = joined(&first, &second)?;
     for _ in 0..DOUBLINGS {
         pieces = joined(&pieces, &pieces)?;
     }

@@ -2,13 +2,12 @@
 
 ghost use Rattle.std.specs.Prelude.{◌≤◌, length};
 
-use crate::loudness::{BYTES, samples};
+use crate::loudness::{BYTES, rest, samples};
 use bench_report::plain::{lanes_sum, plain_sum, rows_sum, short_sum};
 use bench_report::report::{hundredths_of, middle};
 use silence_scan::loud_sum;
 use std::alloc::{AllocError, Global};
-use std::hint::black_box;
-use std::io;
+use std::io::{self, ErrorKind};
 use std::rt::Clock;
 use std::time::{Duration, Instant};
 
@@ -39,22 +38,28 @@ fn sum_by(form: Loop, bytes: &[u8]) -> u64
     }
 }
 
+// What the sums of all rounds come to. What a round goes over is up to the sums before it.
 fn sum_often(form: Loop, bytes: &[u8]) -> u64
     requires { length bytes.now ≤ 1048576 }
 {
     let mut seen = 0u64;
     for _ in 0..TIMES {
-        seen ^= black_box(sum_by(form, black_box(bytes)));
+        seen = seen.wrapping_add(sum_by(form, rest(bytes, seen)));
     }
     seen
 }
 
+// How long all rounds take. They may not come to 0, and that is looked at so that none of them is left out.
 fn time_loop<R: Clock>(rt: &R, form: Loop, bytes: &[u8]) -> io::Result<Duration>
     requires { length bytes.now ≤ 1048576 }
 {
     let start = Instant::now(rt)?;
-    let _seen = black_box(sum_often(form, bytes));
-    start.elapsed(rt)
+    let seen = sum_often(form, bytes);
+    let took = start.elapsed(rt)?;
+    if seen == 0 {
+        return Err(io::Error::from(ErrorKind::InvalidData));
+    }
+    Ok(took)
 }
 
 // How long the fastest of the plain sums takes.
