@@ -1,8 +1,14 @@
 //! A crash at each moment of a change of rows or of a sweep.
 
-use crate::runs::{CHOICES, Standing, advanced, image, run_script, shows, small_disk, standing_on};
+use crate::runs::{
+    CHOICES, Standing, advanced, assert_left, done, image, printed, run_script, shows, small_disk,
+};
+use std::alloc::Global;
+use std::process::Abort;
+use std::sync::Wait;
 use std::test::Fail;
-use voice_main::Status;
+use std::thread::Threads;
+use voice_disk::MemDisk;
 use voice_outside::Disk;
 
 // A script whose last line makes the change, a look at what a crash left, and what that prints where the change isn't done and where it is.
@@ -40,24 +46,35 @@ const CHANGES: [(&[u8], &[u8], &[u8], &[u8]); 5] = [
     ),
 ];
 
+// Asserts what a look prints over what a crash leaves at a moment, with each choice of what isn't settled.
+fn look_at<R: Threads + Wait + Sync + Abort>(
+    rt: &R,
+    alloc: Global,
+    disk: &MemDisk,
+    moment: u64,
+    (look, before, after): (&[u8], &[u8], &[u8]),
+) -> Result<(), Fail> {
+    for choice in CHOICES {
+        let left = image(alloc, disk, moment, choice)?;
+        let (_, text) = run_script(rt, alloc, look, left)?;
+        let wanted = if shows(disk.calls(), moment, choice) {
+            after
+        } else {
+            before
+        };
+        assert_eq!(rt; text.as_slice(), wanted, "moment {moment} choice {choice}");
+    }
+    Ok(())
+}
+
 #[test]
 fn a_crash_leaves_the_state_before_a_change_or_after_it(rt: HostRuntime) -> Result<(), Fail> {
     for (script, look, before, after) in CHANGES {
         let disk = small_disk(rt.alloc(), 2, &[])?;
-        let (ended, _) = run_script(&rt, rt.alloc(), script, disk)?;
-        assert_eq!(rt; ended.status, Status::Done);
-        let last = ended.disk.calls();
+        let (disk, _) = done(&rt, rt.alloc(), script, disk)?;
+        let last = disk.calls();
         for moment in last.saturating_sub(4)..=last {
-            for choice in CHOICES {
-                let left = image(rt.alloc(), &ended.disk, moment, choice)?;
-                let wanted = if shows(last, moment, choice) {
-                    after
-                } else {
-                    before
-                };
-                let (_, text) = run_script(&rt, rt.alloc(), look, left)?;
-                assert_eq!(rt; text.as_slice(), wanted, "moment {moment} choice {choice}");
-            }
+            look_at(&rt, rt.alloc(), &disk, moment, (look, before, after))?;
         }
     }
     Ok(())
@@ -78,25 +95,34 @@ const SWITCHED: Standing = Standing {
     moment: 66,
 };
 
+// A disk after a retain that switches.
+fn switched<R: Threads + Wait + Sync + Abort>(rt: &R, alloc: Global) -> Result<MemDisk, Fail> {
+    let disk = small_disk(alloc, 2, &[])?;
+    let (disk, _) = done(rt, alloc, b"1 record z0\n", disk)?;
+    let disk = advanced(rt, alloc, disk, 1, 66)?;
+    printed(
+        rt,
+        alloc,
+        b"1 retain held k 1 00\n",
+        disk,
+        b"1 1 retain: done\n",
+    )
+}
+
 // The retain closes the first area's head, writes the area, and opens the head: six calls.
 #[test]
 fn a_crash_in_a_switch_leaves_one_area_or_the_other(rt: HostRuntime) -> Result<(), Fail> {
-    let disk = small_disk(rt.alloc(), 2, &[])?;
-    let (ended, _) = run_script(&rt, rt.alloc(), b"1 record z0\n", disk)?;
-    let disk = advanced(&rt, rt.alloc(), ended.disk, 1, 66)?;
-    let (ended, text) = run_script(&rt, rt.alloc(), b"1 retain held k 1 00\n", disk)?;
-    assert_eq!(rt; text.as_slice(), b"1 1 retain: done\n".as_slice());
-    let last = ended.disk.calls();
+    let disk = switched(&rt, rt.alloc())?;
+    let last = disk.calls();
     for moment in last.saturating_sub(6)..=last {
         for choice in CHOICES {
-            let mut left = image(rt.alloc(), &ended.disk, moment, choice)?;
+            let mut left = image(rt.alloc(), &disk, moment, choice)?;
             let wanted = if shows(last, moment, choice) {
                 SWITCHED
             } else {
                 FULL
             };
-            let found = standing_on(rt.alloc(), &mut left)?;
-            assert_eq!(rt; found, wanted, "moment {moment} choice {choice}");
+            assert_left(&rt, rt.alloc(), &mut left, (moment, choice), wanted)?;
         }
     }
     Ok(())

@@ -1,32 +1,55 @@
 //! A day of mail: a message of 360,000 samples, 45 seconds at 8,000 a second, and a note that is put into it.
 
-use crate::runs::run_words;
+use crate::runs::{Files, put_file, run_words};
 use std::alloc::Global;
+use std::process::Abort;
+use std::sync::Wait;
 use std::test::Fail;
+use std::thread::Threads;
 use voice_disk::MemDisk;
 use voice_main::Status;
-use voice_units::Name;
 
 const FORMAT: [&str; 11] = [
     "format", "--block", "4096", "--blocks", "90", "--area", "4096", "--grace", "3600", "--lanes",
     "1",
 ];
 
+// So many equal samples behind others.
+fn extend(alloc: Global, samples: &mut Vec<u8>, sample: u8, count: usize) -> Result<(), Fail> {
+    let more = vec![in alloc; sample; count]?;
+    samples.extend_from_slice(&more)?;
+    Ok(())
+}
+
 // The message: 20 seconds of talk, a second of silence, 24 seconds of talk.
 fn message(alloc: Global) -> Result<Vec<u8>, Fail> {
-    let mut samples = vec![in alloc; 0x41; 160_000]?;
-    samples.extend_from_slice(&vec![in alloc; 0xff; 8000]?)?;
-    samples.extend_from_slice(&vec![in alloc; 0x41; 192_000]?)?;
+    let mut samples = Vec::new(alloc);
+    extend(alloc, &mut samples, 0x41, 160_000)?;
+    extend(alloc, &mut samples, 0xff, 8000)?;
+    extend(alloc, &mut samples, 0x41, 192_000)?;
     Ok(samples)
 }
 
+// A file of so many equal samples behind the others.
+fn put_tape(
+    alloc: Global,
+    files: &mut Files,
+    name: &[u8],
+    sample: u8,
+    count: usize,
+) -> Result<(), Fail> {
+    let samples = vec![in alloc; sample; count]?;
+    put_file(alloc, files, name, &samples)
+}
+
 // The sample files of the day, with a script.
-fn files(alloc: Global, script: &[u8]) -> Result<Vec<(Name, Vec<u8>)>, Fail> {
+fn files(alloc: Global, script: &[u8]) -> Result<Files, Fail> {
     let mut files = Vec::new(alloc);
-    files.push((Name::new(b"s")?, script.to_vec(alloc)?))?;
-    files.push((Name::new(b"msg")?, message(alloc)?))?;
-    files.push((Name::new(b"note")?, vec![in alloc; 0x42; 8000]?))?;
-    files.push((Name::new(b"two")?, vec![in alloc; 0x43; 4097]?))?;
+    let message = message(alloc)?;
+    put_file(alloc, &mut files, b"s", script)?;
+    put_file(alloc, &mut files, b"msg", &message)?;
+    put_tape(alloc, &mut files, b"note", 0x42, 8000)?;
+    put_tape(alloc, &mut files, b"two", 0x43, 4097)?;
     Ok(files)
 }
 
@@ -61,18 +84,46 @@ const DAY: [(&[u8], &[u8]); 6] = [
     ),
 ];
 
+// Runs these words over the disk of the day, which have to be done, and gives the disk then and what was printed.
+fn run_done<R: Threads + Wait + Sync + Abort>(
+    rt: &R,
+    alloc: Global,
+    asked: &[&str],
+    files: Files,
+    disk: MemDisk,
+) -> Result<(MemDisk, Vec<u8>), Fail> {
+    let (ended, text) = run_words(rt, alloc, asked, files, disk)?;
+    assert_eq!(rt; ended.status, Status::Done);
+    Ok((ended.disk, text))
+}
+
+// The formatted disk of the day.
+fn day_disk<R: Threads + Wait + Sync + Abort>(rt: &R, alloc: Global) -> Result<MemDisk, Fail> {
+    let size = 64 + 2 * 4096 + 90 * 4096;
+    let disk = MemDisk::new(alloc, size, Vec::new(alloc))?;
+    let (disk, _) = run_done(rt, alloc, &FORMAT, Vec::new(alloc), disk)?;
+    Ok(disk)
+}
+
+// Asserts what a script of the day prints, and gives the disk then.
+fn run_part<R: Threads + Wait + Sync + Abort>(
+    rt: &R,
+    alloc: Global,
+    script: &[u8],
+    disk: MemDisk,
+    wanted: &[u8],
+) -> Result<MemDisk, Fail> {
+    let files = files(alloc, script)?;
+    let (disk, text) = run_done(rt, alloc, &["run", "s"], files, disk)?;
+    assert_eq!(rt; text.as_slice(), wanted);
+    Ok(disk)
+}
+
 #[test]
 fn a_day_of_mail(rt: HostRuntime) -> Result<(), Fail> {
-    let size = 64 + 2 * 4096 + 90 * 4096;
-    let disk = MemDisk::new(rt.alloc(), size, Vec::new(rt.alloc()))?;
-    let (mut ended, _) = run_words(&rt, rt.alloc(), &FORMAT, Vec::new(rt.alloc()), disk)?;
-    assert_eq!(rt; ended.status, Status::Done);
+    let mut disk = day_disk(&rt, rt.alloc())?;
     for (script, wanted) in DAY {
-        let files = files(rt.alloc(), script)?;
-        let (more, text) = run_words(&rt, rt.alloc(), &["run", "s"], files, ended.disk)?;
-        ended = more;
-        assert_eq!(rt; ended.status, Status::Done);
-        assert_eq!(rt; text.as_slice(), wanted);
+        disk = run_part(&rt, rt.alloc(), script, disk, wanted)?;
     }
     Ok(())
 }

@@ -1,11 +1,12 @@
 //! Rows and sweeps in doubt, and their landings.
 
-use crate::runs::{advanced, run_script, small_disk, standing_on};
+use crate::runs::{Standing, advanced, assert_standing, done, printed, run_script, small_disk};
 use std::alloc::Global;
-use std::sync::Arc;
+use std::process::Abort;
+use std::sync::{Arc, Wait};
 use std::test::Fail;
+use std::thread::Threads;
 use voice_disk::MemDisk;
-use voice_main::Status;
 use voice_model::{Call, Reply, Tapes, Why};
 use voice_store::Store;
 use voice_units::Moment;
@@ -47,18 +48,29 @@ const RETAINS: [(&[u64], &[u8], &[u8]); 5] = [
     ),
 ];
 
+// The calls of the device that fail, what is printed behind the first lines, and what a later run finds.
+type Doubt = (&'static [u64], &'static [u8], &'static [u8]);
+
+// Asserts what a script prints over a disk whose listed calls fail, behind some first lines, and what a later run finds.
+fn assert_doubt<R: Threads + Wait + Sync + Abort>(
+    rt: &R,
+    alloc: Global,
+    (script, first, look): (&[u8], &[u8], &[u8]),
+    (fails, wanted, later): Doubt,
+) -> Result<(), Fail> {
+    let disk = small_disk(alloc, 2, fails)?;
+    let (disk, text) = done(rt, alloc, script, disk)?;
+    assert_eq!(rt; text.as_slice().strip_prefix(first), Some(wanted));
+    let (_, text) = run_script(rt, alloc, look, disk)?;
+    assert_eq!(rt; text.as_slice(), later);
+    Ok(())
+}
+
 #[test]
 fn a_row_in_doubt_lands_before_an_advance(rt: HostRuntime) -> Result<(), Fail> {
-    for (fails, wanted, later) in RETAINS {
-        let disk = small_disk(rt.alloc(), 2, fails)?;
-        let (ended, text) = run_script(&rt, rt.alloc(), RETAIN, disk)?;
-        assert_eq!(rt; ended.status, Status::Done);
-        let behind = text
-            .as_slice()
-            .strip_prefix(b"1 1 record: rope 1 length 20\n".as_slice());
-        assert_eq!(rt; behind, Some(wanted));
-        let (_, text) = run_script(&rt, rt.alloc(), b"1 lookup held k\n", ended.disk)?;
-        assert_eq!(rt; text.as_slice(), later);
+    let first = b"1 1 record: rope 1 length 20\n".as_slice();
+    for row in RETAINS {
+        assert_doubt(&rt, rt.alloc(), (RETAIN, first, b"1 lookup held k\n"), row)?;
     }
     Ok(())
 }
@@ -102,14 +114,9 @@ const SWEEPS: [(&[u64], &[u8], &[u8]); 5] = [
 
 #[test]
 fn a_sweep_in_doubt_lands_before_a_recording(rt: HostRuntime) -> Result<(), Fail> {
-    for (fails, wanted, later) in SWEEPS {
-        let disk = small_disk(rt.alloc(), 2, fails)?;
-        let (ended, text) = run_script(&rt, rt.alloc(), SWEEP, disk)?;
-        assert_eq!(rt; ended.status, Status::Done);
-        let before = b"1 1 record: rope 1 length 128\n2 1 advance: done\n".as_slice();
-        assert_eq!(rt; text.as_slice().strip_prefix(before), Some(wanted));
-        let (_, text) = run_script(&rt, rt.alloc(), b"1 length 1\n", ended.disk)?;
-        assert_eq!(rt; text.as_slice(), later);
+    let first = b"1 1 record: rope 1 length 128\n2 1 advance: done\n".as_slice();
+    for row in SWEEPS {
+        assert_doubt(&rt, rt.alloc(), (SWEEP, first, b"1 length 1\n"), row)?;
     }
     Ok(())
 }
@@ -124,21 +131,42 @@ fn open(alloc: Global, disk: MemDisk) -> Result<Store<MemDisk>, Fail> {
     }
 }
 
+// A store over a disk with a call that fails, whose blocks are all in use by a rope that is due.
+fn crowded_store<R: Threads + Wait + Sync>(
+    rt: &R,
+    alloc: Global,
+    fails: u64,
+) -> Result<Store<MemDisk>, Fail> {
+    let disk = small_disk(alloc, 2, &[fails])?;
+    let script = b"1 record z128\n1 advance 60\n";
+    let (ended, _) = run_script(rt, alloc, script, disk)?;
+    open(alloc, ended.disk)
+}
+
+// Whether a sweep is in doubt.
+fn is_sweep_in_doubt(store: &mut Store<MemDisk>) -> Result<bool, Fail> {
+    let reply = store.apply(1, Call::Sweep(9))?;
+    Ok(matches!(&reply, Reply::No(Why::InDoubt)))
+}
+
+// Whether an advance to the moment that stands is done.
+fn is_advance_done(store: &mut Store<MemDisk>) -> Result<bool, Fail> {
+    let reply = store.apply(1, Call::Advance(Moment(60)))?;
+    Ok(matches!(&reply, Reply::Done))
+}
+
 // The second opening makes the calls 18 to 22, and the sweep 23 to 26.
 #[test]
 fn blocks_are_free_once_the_sweep_has_landed(rt: HostRuntime) -> Result<(), Fail> {
-    for fails in [[25], [26]] {
-        let disk = small_disk(rt.alloc(), 2, &fails)?;
-        let script = b"1 record z128\n1 advance 60\n";
-        let (ended, _) = run_script(&rt, rt.alloc(), script, disk)?;
-        let mut store = open(rt.alloc(), ended.disk)?;
-        assert_eq!(rt; store.free(), 0);
-        let reply = store.apply(1, Call::Sweep(9))?;
-        assert!(rt; matches!(&reply, Reply::No(Why::InDoubt)));
-        assert_eq!(rt; store.free(), 0);
-        let reply = store.apply(1, Call::Advance(Moment(60)))?;
-        assert!(rt; matches!(&reply, Reply::Done));
-        assert_eq!(rt; store.free(), 16);
+    for fails in [25, 26] {
+        let mut store = crowded_store(&rt, rt.alloc(), fails)?;
+        let before = store.free();
+        let in_doubt = is_sweep_in_doubt(&mut store)?;
+        let meanwhile = store.free();
+        let done = is_advance_done(&mut store)?;
+        let free = (before, meanwhile, store.free());
+        assert!(rt; in_doubt && done);
+        assert_eq!(rt; free, (0, 0, 16));
         assert_eq!(rt; store.history().len(), 3);
     }
     Ok(())
@@ -176,11 +204,14 @@ fn a_switch_in_doubt_lands(rt: HostRuntime) -> Result<(), Fail> {
     for (call, wanted, left) in SWITCHES {
         let disk = small_disk(rt.alloc(), 2, &[call])?;
         let disk = advanced(&rt, rt.alloc(), disk, 1, 35)?;
-        let (ended, text) = run_script(&rt, rt.alloc(), SWITCH, disk)?;
-        assert_eq!(rt; text.as_slice(), wanted);
-        let mut disk = ended.disk;
-        let found = standing_on(rt.alloc(), &mut disk)?;
-        assert_eq!(rt; (found.epoch, found.left, found.moment), (2, left, 37));
+        let mut disk = printed(&rt, rt.alloc(), SWITCH, disk, wanted)?;
+        let wanted = Standing {
+            epoch: 2,
+            left,
+            form: 2,
+            moment: 37,
+        };
+        assert_standing(&rt, rt.alloc(), &mut disk, wanted)?;
     }
     Ok(())
 }

@@ -1,12 +1,17 @@
 //! Disks of version 1: their migration, and bases for which only form 1 has room.
 
-use crate::runs::{CHOICES, Standing, advanced, image, run_script, shows, small_disk, standing_on};
+use crate::runs::{
+    CHOICES, Standing, advanced, assert_left, assert_standing, done, image, printed, shows,
+    small_disk,
+};
 use disk_uses::steps::{Did, append, bytes_of, part};
 use std::alloc::Global;
+use std::process::Abort;
+use std::sync::Wait;
 use std::test::Fail;
+use std::thread::Threads;
 use voice_disk::MemDisk;
 use voice_journal::Journal;
-use voice_main::Status;
 use voice_outside::Disk;
 
 // Before the 36th advance.
@@ -25,44 +30,66 @@ const MIGRATED: Standing = Standing {
     moment: 36,
 };
 
-// The first payload of the second area stands at byte 597.
+// A disk that the last advance brings to form 2. The first payload of the second area stands at byte 597.
+fn migrated<R: Threads + Wait + Sync + Abort>(rt: &R, alloc: Global) -> Result<MemDisk, Fail> {
+    let disk = small_disk(alloc, 1, &[])?;
+    let disk = advanced(rt, alloc, disk, 1, 36)?;
+    let bytes = bytes_of(alloc, &disk)?;
+    assert!(rt; part(&bytes, 597, 598) == [0x0c].as_slice());
+    Ok(disk)
+}
+
+// Asserts what a crash leaves at a moment, and what an advance makes of it.
+fn look_at<R: Threads + Wait + Sync + Abort>(
+    rt: &R,
+    alloc: Global,
+    disk: &MemDisk,
+    moment: u64,
+    choice: u16,
+) -> Result<(), Fail> {
+    let mut left = image(alloc, disk, moment, choice)?;
+    let wanted = if shows(disk.calls(), moment, choice) {
+        MIGRATED
+    } else {
+        FIRST
+    };
+    assert_left(rt, alloc, &mut left, (moment, choice), wanted)?;
+    let mut left = advanced(rt, alloc, left, 36, 36)?;
+    assert_standing(rt, alloc, &mut left, MIGRATED)
+}
+
 #[test]
 fn a_crash_leaves_the_first_form_or_the_second(rt: HostRuntime) -> Result<(), Fail> {
-    let disk = small_disk(rt.alloc(), 1, &[])?;
-    let disk = advanced(&rt, rt.alloc(), disk, 1, 36)?;
-    let bytes = bytes_of(rt.alloc(), &disk)?;
-    assert!(rt; part(&bytes, 597, 598) == [0x0c].as_slice());
+    let disk = migrated(&rt, rt.alloc())?;
     let last = disk.calls();
     for moment in last.saturating_sub(4)..=last {
         for choice in CHOICES {
-            let mut left = image(rt.alloc(), &disk, moment, choice)?;
-            let wanted = if shows(last, moment, choice) {
-                MIGRATED
-            } else {
-                FIRST
-            };
-            let found = standing_on(rt.alloc(), &mut left)?;
-            assert_eq!(rt; found, wanted, "moment {moment} choice {choice}");
-            let mut left = advanced(&rt, rt.alloc(), left, 36, 36)?;
-            assert_eq!(rt; standing_on(rt.alloc(), &mut left)?, MIGRATED);
+            look_at(&rt, rt.alloc(), &disk, moment, choice)?;
         }
     }
     Ok(())
 }
 
-// Nineteen empty ropes take 478 bytes of a base in form 1, and 497 in form 2.
-#[test]
-fn nineteen_ropes_stay_in_the_first_form(rt: HostRuntime) -> Result<(), Fail> {
-    let mut script = Vec::new(rt.alloc());
+// A disk of version 1 with as many empty ropes as its journal has room for.
+fn nineteen_ropes<R: Threads + Wait + Sync + Abort>(
+    rt: &R,
+    alloc: Global,
+) -> Result<MemDisk, Fail> {
+    let mut script = Vec::new(alloc);
     for _ in 0..20 {
         script.extend_from_slice(b"1 record z0\n")?;
     }
-    let disk = small_disk(rt.alloc(), 1, &[])?;
-    let (ended, text) = run_script(&rt, rt.alloc(), &script, disk)?;
-    assert_eq!(rt; ended.status, Status::Done);
+    let disk = small_disk(alloc, 1, &[])?;
+    let (disk, text) = done(rt, alloc, &script, disk)?;
     let end = b"\n19 1 record: rope 19 length 0\n20 1 record: no journal-full 502 495\n";
     assert!(rt; text.as_slice().ends_with(end));
-    let mut disk = ended.disk;
+    Ok(disk)
+}
+
+// Nineteen empty ropes take 478 bytes of a base in form 1, and 497 in form 2.
+#[test]
+fn nineteen_ropes_stay_in_the_first_form(rt: HostRuntime) -> Result<(), Fail> {
+    let mut disk = nineteen_ropes(&rt, rt.alloc())?;
     for (moment, epoch, left) in [(1, 1, 63), (5, 1, 7), (6, 2, 17), (7, 2, 3), (8, 3, 17)] {
         disk = advanced(&rt, rt.alloc(), disk, 1, moment)?;
         let wanted = Standing {
@@ -71,7 +98,7 @@ fn nineteen_ropes_stay_in_the_first_form(rt: HostRuntime) -> Result<(), Fail> {
             form: 1,
             moment,
         };
-        assert_eq!(rt; standing_on(rt.alloc(), &mut disk)?, wanted);
+        assert_standing(&rt, rt.alloc(), &mut disk, wanted)?;
     }
     Ok(())
 }
@@ -138,17 +165,14 @@ const CROWDED: [(&[u8], &[u8], (u64, u64, u8, u64)); 6] = [
 fn a_sweep_makes_room_in_a_crowded_journal(rt: HostRuntime) -> Result<(), Fail> {
     let mut disk = crowded_disk(rt.alloc())?;
     for (script, wanted, (epoch, left, form, moment)) in CROWDED {
-        let (ended, text) = run_script(&rt, rt.alloc(), script, disk)?;
-        assert_eq!(rt; ended.status, Status::Done);
-        assert_eq!(rt; text.as_slice(), wanted);
-        disk = ended.disk;
+        disk = printed(&rt, rt.alloc(), script, disk, wanted)?;
         let wanted = Standing {
             epoch,
             left,
             form,
             moment,
         };
-        assert_eq!(rt; standing_on(rt.alloc(), &mut disk)?, wanted);
+        assert_standing(&rt, rt.alloc(), &mut disk, wanted)?;
     }
     Ok(())
 }

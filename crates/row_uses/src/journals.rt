@@ -1,9 +1,13 @@
 //! Journals that get full of advances and of rows.
 
-use crate::runs::{Standing, advanced, run_script, small_disk, standing_on};
+use crate::runs::{Standing, advanced, assert_standing, done, printed, small_disk};
 use disk_uses::steps::{bytes_of, part};
+use std::alloc::Global;
+use std::process::Abort;
+use std::sync::Wait;
 use std::test::Fail;
-use voice_main::Status;
+use std::thread::Threads;
+use voice_disk::MemDisk;
 
 // What stands in form 2.
 fn at(epoch: u64, left: u64, moment: u64) -> Standing {
@@ -15,6 +19,27 @@ fn at(epoch: u64, left: u64, moment: u64) -> Standing {
     }
 }
 
+// Advances from one moment to another, and asserts what stands then.
+fn advance_to<R: Threads + Wait + Sync + Abort>(
+    rt: &R,
+    alloc: Global,
+    disk: MemDisk,
+    from: u64,
+    wanted: Standing,
+) -> Result<MemDisk, Fail> {
+    let mut disk = advanced(rt, alloc, disk, from, wanted.moment)?;
+    assert_standing(rt, alloc, &mut disk, wanted)?;
+    Ok(disk)
+}
+
+// Asserts that the second area counts, with this epoch.
+fn assert_second(rt: &impl Abort, alloc: Global, disk: &MemDisk, epoch: u8) -> Result<(), Fail> {
+    let bytes = bytes_of(alloc, disk)?;
+    assert!(rt; part(&bytes, 576, 577) == [1].as_slice());
+    assert!(rt; part(&bytes, 584, 592) == [0, 0, 0, 0, 0, 0, 0, epoch].as_slice());
+    Ok(())
+}
+
 // An advance takes 14 of the 495 bytes, and a base without ropes 22. So the 36th advance switches, and then each 34th.
 #[test]
 fn a_thousand_advances_switch_29_times(rt: HostRuntime) -> Result<(), Fail> {
@@ -23,22 +48,13 @@ fn a_thousand_advances_switch_29_times(rt: HostRuntime) -> Result<(), Fail> {
     for epoch in 1..30u64 {
         let last = 34 * epoch + 1;
         let left = if epoch == 1 { 5 } else { 11 };
-        disk = advanced(&rt, rt.alloc(), disk, next, last)?;
-        assert_eq!(rt; standing_on(rt.alloc(), &mut disk)?, at(epoch, left, last));
-        disk = advanced(&rt, rt.alloc(), disk, last + 1, last + 1)?;
-        assert_eq!(rt;
-            standing_on(rt.alloc(), &mut disk)?,
-            at(epoch + 1, 473, last + 1)
-        );
-        next = last + 2;
+        disk = advance_to(&rt, rt.alloc(), disk, next, at(epoch, left, last))?;
+        next = last + 1;
+        disk = advance_to(&rt, rt.alloc(), disk, next, at(epoch + 1, 473, next))?;
+        next += 1;
     }
-    disk = advanced(&rt, rt.alloc(), disk, next, 1000)?;
-    assert_eq!(rt; standing_on(rt.alloc(), &mut disk)?, at(30, 305, 1000));
-    // The second area counts.
-    let bytes = bytes_of(rt.alloc(), &disk)?;
-    assert!(rt; part(&bytes, 576, 577) == [1].as_slice());
-    assert!(rt; part(&bytes, 584, 592) == [0, 0, 0, 0, 0, 0, 0, 30].as_slice());
-    Ok(())
+    let disk = advance_to(&rt, rt.alloc(), disk, next, at(30, 305, 1000))?;
+    assert_second(&rt, rt.alloc(), &disk, 30)
 }
 
 // The rest of a key of 64 bytes.
@@ -65,20 +81,19 @@ const KEYS: [(&str, u8, &str, &[u8], u64, u64); 10] = [
     ("lookup", 6, "", b"1 1 lookup: found 1 -\n", 2, 43),
 ];
 
+// A call on a key that begins with a digit.
+fn line_of(alloc: Global, verb: &str, digit: u8, behind: &str) -> Result<String, Fail> {
+    Ok(format!(in alloc; "1 {verb} held {digit}{KEY} {behind}\n")?)
+}
+
 #[test]
 fn six_keys_of_64_bytes(rt: HostRuntime) -> Result<(), Fail> {
     let disk = small_disk(rt.alloc(), 2, &[])?;
-    let (mut ended, _) = run_script(&rt, rt.alloc(), b"1 record z0\n", disk)?;
+    let (mut disk, _) = done(&rt, rt.alloc(), b"1 record z0\n", disk)?;
     for (verb, digit, behind, wanted, epoch, left) in KEYS {
-        let script = format!(in rt.alloc(); "1 {verb} held {digit}{KEY} {behind}\n")?;
-        let (more, text) = run_script(&rt, rt.alloc(), script.as_bytes(), ended.disk)?;
-        ended = more;
-        assert_eq!(rt; ended.status, Status::Done);
-        assert_eq!(rt; text.as_slice(), wanted);
-        assert_eq!(rt;
-            standing_on(rt.alloc(), &mut ended.disk)?,
-            at(epoch, left, 0)
-        );
+        let line = line_of(rt.alloc(), verb, digit, behind)?;
+        disk = printed(&rt, rt.alloc(), line.as_bytes(), disk, wanted)?;
+        assert_standing(&rt, rt.alloc(), &mut disk, at(epoch, left, 0))?;
     }
     Ok(())
 }

@@ -3,13 +3,14 @@
 use disk_uses::steps::format;
 use recovery::replay;
 use std::alloc::Global;
+use std::process::Abort;
 use std::sync::Wait;
 use std::test::Fail;
 use std::thread::Threads;
 use voice_disk::{MemDisk, image_of};
 use voice_journal::Journal;
 use voice_main::{Ended, Status, run};
-use voice_model::Reply;
+use voice_model::{Entry, Reply};
 use voice_outside::{Disk, MemShelf, MemSink, OpenGate};
 use voice_units::Name;
 
@@ -35,6 +36,32 @@ pub fn run_words<R: Threads + Wait + Sync>(
     Ok((ended, text))
 }
 
+/// Puts a file behind the others.
+pub fn put_file(alloc: Global, files: &mut Files, name: &[u8], bytes: &[u8]) -> Result<(), Fail> {
+    let name = Name::new(name)?;
+    let bytes = bytes.to_vec(alloc)?;
+    files.push((name, bytes))?;
+    Ok(())
+}
+
+// The letters from A to T, and so many bytes 0x80.
+const FILES: [(&[u8], &[u8]); 4] = [
+    (b"f20", b"ABCDEFGHIJKLMNOPQRST"),
+    (b"z0", b""),
+    (b"z1", b"\x80"),
+    (b"z128", &[0x80; 128]),
+];
+
+// The script `s` and these files.
+fn files_with(alloc: Global, script: &[u8]) -> Result<Files, Fail> {
+    let mut files = Vec::new(alloc);
+    put_file(alloc, &mut files, b"s", script)?;
+    for (name, bytes) in FILES {
+        put_file(alloc, &mut files, name, bytes)?;
+    }
+    Ok(files)
+}
+
 /// Runs a script over a disk. Its files are `f20`, the letters from A to T, and `z0`, `z1` and `z128` of so many bytes 0x80.
 pub fn run_script<R: Threads + Wait + Sync>(
     rt: &R,
@@ -42,13 +69,33 @@ pub fn run_script<R: Threads + Wait + Sync>(
     script: &[u8],
     disk: MemDisk,
 ) -> Result<(Ended<MemDisk>, Vec<u8>), Fail> {
-    let mut files = Vec::new(alloc);
-    files.push((Name::new(b"s")?, script.to_vec(alloc)?))?;
-    files.push((Name::new(b"f20")?, b"ABCDEFGHIJKLMNOPQRST".to_vec(alloc)?))?;
-    files.push((Name::new(b"z0")?, Vec::new(alloc)))?;
-    files.push((Name::new(b"z1")?, b"\x80".to_vec(alloc)?))?;
-    files.push((Name::new(b"z128")?, vec![in alloc; 0x80; 128]?))?;
+    let files = files_with(alloc, script)?;
     run_words(rt, alloc, &["run", "s"], files, disk)
+}
+
+/// Runs a script that is done, and gives the disk then and what was printed.
+pub fn done<R: Threads + Wait + Sync + Abort>(
+    rt: &R,
+    alloc: Global,
+    script: &[u8],
+    disk: MemDisk,
+) -> Result<(MemDisk, Vec<u8>), Fail> {
+    let (ended, text) = run_script(rt, alloc, script, disk)?;
+    assert_eq!(rt; ended.status, Status::Done);
+    Ok((ended.disk, text))
+}
+
+/// Runs a script that is done and prints just this, and gives the disk then.
+pub fn printed<R: Threads + Wait + Sync + Abort>(
+    rt: &R,
+    alloc: Global,
+    script: &[u8],
+    disk: MemDisk,
+    wanted: &[u8],
+) -> Result<MemDisk, Fail> {
+    let (disk, text) = done(rt, alloc, script, disk)?;
+    assert_eq!(rt; text.as_slice(), wanted);
+    Ok(disk)
 }
 
 /// A disk of 4,096 bytes of that version: blocks of 8, 16 of them, areas of 512, graces of 60, 4 lanes. The listed calls fail, of which the first three are those of formatting.
@@ -56,6 +103,27 @@ pub fn small_disk(alloc: Global, version: u32, fails: &[u64]) -> Result<MemDisk,
     let mut disk = MemDisk::new(alloc, 4096, fails.to_vec(alloc)?)?;
     let _did = format(&mut disk, version);
     Ok(disk)
+}
+
+// Advances to each moment from one to another.
+fn advances(alloc: Global, from: u64, to: u64) -> Result<Vec<u8>, Fail> {
+    let mut script = Vec::new(alloc);
+    for moment in from..=to {
+        let line = format!(in alloc; "1 advance {moment}\n")?;
+        script.extend_from_slice(line.as_bytes())?;
+    }
+    Ok(script)
+}
+
+// How many calls were done.
+fn count_done(history: &[Entry]) -> u64 {
+    let mut count = 0u64;
+    for entry in history {
+        if matches!(&entry.reply, Reply::Done) {
+            count = count.saturating_add(1);
+        }
+    }
+    count
 }
 
 /// Advances to each moment from one to another, and gives the disk where each advance was done.
@@ -66,18 +134,13 @@ pub fn advanced<R: Threads + Wait + Sync>(
     from: u64,
     to: u64,
 ) -> Result<MemDisk, Fail> {
-    let mut script = Vec::new(alloc);
-    for moment in from..=to {
-        let line = format!(in alloc; "1 advance {moment}\n")?;
-        script.extend_from_slice(line.as_bytes())?;
-    }
+    let script = advances(alloc, from, to)?;
     let (ended, _) = run_script(rt, alloc, &script, disk)?;
-    let done = ended
-        .history
-        .iter()
-        .filter(|entry| matches!(&entry.reply, Reply::Done))
-        .count();
-    if ended.status != Status::Done || from.saturating_add(done as u64) != to.saturating_add(1) {
+    let done = count_done(&ended.history);
+    if ended.status != Status::Done {
+        return Err(Fail::new("the advances were not done"));
+    }
+    if from.saturating_add(done) != to.saturating_add(1) {
         return Err(Fail::new("an advance was not done"));
     }
     Ok(ended.disk)
@@ -102,6 +165,31 @@ pub fn standing_on(alloc: Global, disk: &mut MemDisk) -> Result<Standing, Fail> 
         form: parts.form,
         moment: parts.moment.0,
     })
+}
+
+/// Asserts what stands on a disk that opens.
+pub fn assert_standing(
+    rt: &impl Abort,
+    alloc: Global,
+    disk: &mut MemDisk,
+    wanted: Standing,
+) -> Result<(), Fail> {
+    let found = standing_on(alloc, disk)?;
+    assert_eq!(rt; found, wanted);
+    Ok(())
+}
+
+/// Asserts what stands on the disk that a crash leaves at a moment, with a choice of what isn't settled.
+pub fn assert_left(
+    rt: &impl Abort,
+    alloc: Global,
+    left: &mut MemDisk,
+    (moment, choice): (u64, u16),
+    wanted: Standing,
+) -> Result<(), Fail> {
+    let found = standing_on(alloc, left)?;
+    assert_eq!(rt; found, wanted, "moment {moment} choice {choice}");
+    Ok(())
 }
 
 /// The disk that a crash leaves: at a moment, with a choice of what isn't settled.
