@@ -10,6 +10,3 @@ mod sizes;
 
 pub use compacting::{compact, compact_parts};
 pub use sizes::{BaseNumbers, base_size, parts_size};
-
-#[cfg(test)]
-mod tests;

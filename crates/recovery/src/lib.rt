@@ -17,8 +17,3 @@ mod sweeps;
 pub use parts::Parts;
 pub use replaying::{ReplayError, replay};
 pub use settling::{Going, gather};
-
-#[cfg(test)]
-mod replay_tests;
-#[cfg(test)]
-mod tests;

@@ -2,8 +2,9 @@
 
 ghost use Rattle.recovery.specs.Shown.{IsParts};
 
-use super::{compacted, empty_parts, small_shape, tried};
-use crate::compact_parts;
+use crate::bases::{compacted, small_shape};
+use crate::steps::{empty_parts, tried};
+use checkpoint::compact_parts;
 use recovery::{Parts, replay};
 use std::alloc::Global;
 use std::test::Fail;
@@ -125,7 +126,9 @@ fn try_many(
     let mut done = 0u64;
     'changes: for _ in 0..count {
         let bytes = change(alloc, parts.next, draw(&mut state))?;
-        done = tried(parts, alloc, shape, &bytes).saturating_add(done);
+        if tried(parts, alloc, shape, &bytes) == 1 {
+            done = done.saturating_add(1);
+        }
     }
     Ok(done)
 }

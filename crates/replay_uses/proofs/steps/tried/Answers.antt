@@ -1,5 +1,5 @@
 use Rattle.recovery.proofs.Rebuilding.{parts_after}
-use Rattle.recovery.proofs.tests.tried.Goals as goal
+use Rattle.replay_uses.proofs.steps.tried.Goals as goal
 
 pub returns-in-Ok-apply : goal.returns-in-Ok-apply
 returns-in-Ok-apply c = parts_after c.args.shape.now c.args.parts.now c.apply.new.self c.in-Ok.change c.apply.result c.requires c.apply.ensures.done c.apply.ensures.same

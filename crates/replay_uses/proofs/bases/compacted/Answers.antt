@@ -1,5 +1,5 @@
 use Rattle.checkpoint.proofs.Held.{used_alone}
-use Rattle.checkpoint.proofs.tests.compacted.Goals as goal
+use Rattle.replay_uses.proofs.bases.compacted.Goals as goal
 
 pub compact_parts-requires-clause-shown : goal.compact_parts-requires-clause-shown
 compact_parts-requires-clause-shown c = (c.requires.what, used_alone c.args.parts.now c.requires.what c.requires.shows)

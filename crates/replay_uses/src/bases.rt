@@ -1,22 +1,18 @@
 //! Bases of small disks, byte for byte, and of what many changes leave.
 
-ghost use Rattle.std.specs.Prelude.{◌≡◌, is_some, IfOk};
 ghost use Rattle.recovery.specs.Shown.{IsParts};
-ghost use Rattle.voice_model.specs.Replay.{brings};
 
-use super::{BaseNumbers, base_size, compact_parts};
-use change_codec::get;
+use crate::steps::{empty_parts, tried};
+use checkpoint::{BaseNumbers, base_size, compact_parts};
 use recovery::Parts;
 use std::alloc::Global;
+use std::process::Abort;
 use std::test::Fail;
 use voice_journal::Payloads;
-use voice_model::Change;
 use voice_units::{BadShape, Graces, NoMemory, Shape};
 
-mod many;
-
-// 64 blocks of 8 samples.
-fn small_shape(version: u32) -> Result<Shape, BadShape> {
+/// 64 blocks of 8 samples.
+pub fn small_shape(version: u32) -> Result<Shape, BadShape> {
     let graces = Graces {
         common: 60,
         held: 60,
@@ -26,52 +22,13 @@ fn small_shape(version: u32) -> Result<Shape, BadShape> {
     Shape::new(version, 8, 64, 4096, graces, 4, 1 << 20)
 }
 
-fn empty_parts(alloc: Global, shape: &Shape) -> Result<Parts, NoMemory>
-    ensures { IfOk result (λ parts. IsParts shape.now parts) }
-{
-    Parts::empty(alloc, shape)
-}
-
-// Whether a running server makes changes of this kind.
-fn is_of_a_server(change: &Change) -> bool
-    ensures { result ≡ is_some (brings change.now) }
-{
-    match change {
-        Change::Base(..)
-        | Change::Base2(..)
-        | Change::File(..)
-        | Change::File2(..)
-        | Change::Rope(..)
-        | Change::Rope2(..) => false,
-        _ => true,
-    }
-}
-
-// Tries the change that bytes spell: 1 where it was done, else 0.
-fn tried(parts: &mut Parts, alloc: Global, shape: &Shape, bytes: &[u8]) -> u64
-    requires { IsParts shape.now parts.old }
-    ensures { IsParts shape.now parts.new }
-{
-    let Ok(change) = get(alloc, bytes) else {
-        return 0;
-    };
-    if !is_of_a_server(&change) {
-        return 0;
-    }
-    if parts.ropes.count() > 999 {
-        return 0;
-    }
-    if parts.interests.is_full() {
-        return 0;
-    }
-    match parts.apply(alloc, shape, &change) {
-        Ok(done) => u64::from(done),
-        Err(_) => 0,
-    }
-}
-
-// The base in a form, where the parts may take it.
-fn compacted(parts: &Parts, alloc: Global, shape: &Shape, form: u8) -> Result<Payloads, NoMemory>
+/// The base in a form, where the parts may take it.
+pub fn compacted(
+    parts: &Parts,
+    alloc: Global,
+    shape: &Shape,
+    form: u8,
+) -> Result<Payloads, NoMemory>
     requires { IsParts shape.now parts.now }
 {
     if form == 2 {
@@ -114,7 +71,9 @@ fn done(parts: &mut Parts, alloc: Global, shape: &Shape, changes: &[&[u8]]) -> u
 {
     let mut done = 0u64;
     'changes: for bytes in changes {
-        done = tried(parts, alloc, shape, bytes).saturating_add(done);
+        if tried(parts, alloc, shape, bytes) == 1 {
+            done = done.saturating_add(1);
+        }
     }
     done
 }
@@ -150,16 +109,28 @@ fn changed(
     Ok((count, same, size))
 }
 
+// Asserts the same.
+fn assert_changed(
+    rt: &impl Abort,
+    alloc: Global,
+    changes: &[&[u8]],
+    form: u8,
+    list: &[&[u8]],
+    wanted: (u64, usize, u64),
+) -> Result<(), Fail> {
+    let found = changed(alloc, 1, changes, form, list)?;
+    assert_eq!(rt; found, wanted);
+    Ok(())
+}
+
 const BEGUN: [u8; 17] = [8, 0, 0, 0, 0, 0, 0, 0, 0, 0, 0, 0, 0, 0, 0, 0, 1];
 
 const BEGUN_2: [u8; 17] = [12, 0, 0, 0, 0, 0, 0, 0, 0, 0, 0, 0, 0, 0, 0, 0, 1];
 
 #[test]
 fn nothing(rt: HostRuntime) -> Result<(), Fail> {
-    for (form, begun) in [(1, &BEGUN), (2, &BEGUN_2)] {
-        assert_eq!(rt; changed(rt.alloc(), 1, &[], form, &[begun])?, (0, 1, 22));
-    }
-    Ok(())
+    assert_changed(&rt, rt.alloc(), &[], 1, &[&BEGUN], (0, 1, 22))?;
+    assert_changed(&rt, rt.alloc(), &[], 2, &[&BEGUN_2], (0, 1, 22))
 }
 
 // 20 samples, in the blocks at 0, 1 and 2.
@@ -227,23 +198,25 @@ const ROPE_5_2: [u8; 36] = [
     8, 0, 0, 0, 1,
 ];
 
+const CHANGES: [&[u8]; 7] = [
+    &RECORDED,
+    &EDITED,
+    &RETAINED,
+    &ADVANCED,
+    &RECORDED_LATER,
+    &LAST_SAMPLE,
+    &SWEPT,
+];
+
+const LIST: [&[u8]; 7] = [&HEAD, &FILE, &FILE_4, &ROPE, &ROPE_3, &ROPE_5, &RETAINED];
+
 // An empty place of a list stands for any payload.
+const LIST_2: [&[u8]; 7] = [&HEAD_2, &[], &FILE_4_2, &[], &[], &ROPE_5_2, &RETAINED];
+
 #[test]
 fn changes(rt: HostRuntime) -> Result<(), Fail> {
-    let changes: [&[u8]; 7] = [
-        &RECORDED,
-        &EDITED,
-        &RETAINED,
-        &ADVANCED,
-        &RECORDED_LATER,
-        &LAST_SAMPLE,
-        &SWEPT,
-    ];
-    let list: [&[u8]; 7] = [&HEAD, &FILE, &FILE_4, &ROPE, &ROPE_3, &ROPE_5, &RETAINED];
-    assert_eq!(rt; changed(rt.alloc(), 1, &changes, 1, &list)?, (7, 7, 243));
-    let list: [&[u8]; 7] = [&HEAD_2, &[], &FILE_4_2, &[], &[], &ROPE_5_2, &RETAINED];
-    assert_eq!(rt; changed(rt.alloc(), 1, &changes, 2, &list)?, (7, 7, 254));
-    Ok(())
+    assert_changed(&rt, rt.alloc(), &CHANGES, 1, &LIST, (7, 7, 243))?;
+    assert_changed(&rt, rt.alloc(), &CHANGES, 2, &LIST_2, (7, 7, 254))
 }
 
 // In form 2: 9 samples, in the blocks at 40 and 4.
@@ -272,8 +245,7 @@ fn last_class(rt: HostRuntime) -> Result<(), Fail> {
     let changes: [&[u8]; 3] = [&WIDE, &LISTED, &UNLISTED];
     let list: [&[u8]; 3] = [&HEAD_WIDE, &FILE_WIDE, &ROPE_LISTED];
     let (done, same, _size) = changed(rt.alloc(), 2, &changes, 2, &list)?;
-    assert_eq!(rt; done, 3);
-    assert_eq!(rt; same, 3);
+    assert_eq!(rt; (done, same), (3, 3));
     Ok(())
 }
 

@@ -1,7 +1,9 @@
 //! Lists of payloads, the first one that is refused, and what is opened.
 
-use super::{Parts, ReplayError, replay};
+use Part::*;
+use recovery::{Parts, ReplayError, replay};
 use std::alloc::Global;
+use std::process::Abort;
 use std::test::Fail;
 use voice_blocks::Owner;
 use voice_journal::Placed;
@@ -122,120 +124,117 @@ fn refused(alloc: Global, version: u32, parts: &[Part]) -> Result<u64, Fail> {
     }
 }
 
-// Form 2 on a disk of version 2.
-#[test]
-fn lists_in_form_2(rt: HostRuntime) -> Result<(), Fail> {
-    use Part::*;
-    let alloc = rt.alloc();
-    let rows = [
-        ([].as_slice(), TAKEN),
-        ([Base2].as_slice(), TAKEN),
-        (
-            [
-                Base2,
-                Pair2(1, 3, 5),
-                File2(2, 0, 4),
-                Rope2(1, 60, 1, 9),
-                Rope2(2, 0, 2, 0),
-            ]
-            .as_slice(),
-            TAKEN,
-        ),
-        ([Advanced(60), Base2].as_slice(), 1),
-        ([Base2, Base2].as_slice(), 1),
-        ([Base2, File2(2, 0, 3), File2(1, 0, 4)].as_slice(), 2),
-        ([Base2, File2(1, 0, 3), File2(1, 1, 4)].as_slice(), 2),
-        ([Base2, File2(8, 0, 3), File2(9, 0, 4)].as_slice(), 2),
-        ([Base2, File2(1, 0, 15), File2(2, 0, 16)].as_slice(), 2),
-        ([Base2, Pair2(1, 3, 3)].as_slice(), 1),
-        ([Base2, File2(1, 0, 3), File2(2, 0, 3)].as_slice(), 2),
-        ([Base2, Rope2(1, 60, 1, 0), File2(1, 0, 3)].as_slice(), 1),
-        (
-            [Base2, File2(1, 0, 3), Rope2(1, 60, 1, 0), File2(2, 0, 4)].as_slice(),
-            3,
-        ),
-        ([Base2, File2(1, 0, 3), Rope2(1, 61, 1, 0)].as_slice(), 2),
-        ([Base2, File2(1, 0, 3), Rope2(1, 60, 1, 8)].as_slice(), 2),
-        ([Base2, File2(1, 0, 3), Rope2(9, 60, 1, 0)].as_slice(), 2),
-        (
-            [
-                Base2,
-                File2(1, 0, 3),
-                Rope2(2, 60, 1, 0),
-                Rope2(2, 60, 1, 0),
-            ]
-            .as_slice(),
-            3,
-        ),
-        (
-            [Base2, File2(1, 0, 3), Advanced(61), Rope2(1, 60, 1, 0)].as_slice(),
-            3,
-        ),
-        ([Base2, Advanced(61), File2(1, 0, 3)].as_slice(), 2),
-        ([File2(1, 0, 3)].as_slice(), 0),
-        ([Rope2(1, 0, 1, 0)].as_slice(), 0),
-        ([Base1].as_slice(), 0),
-        ([Base2, File1(1, 0, 3)].as_slice(), 1),
-        ([Base2, File2(1, 0, 3), Rope1(1, 60, 1, 0)].as_slice(), 2),
-        ([Base2, Recorded1(9, 0)].as_slice(), 1),
-        ([Base2, Recorded2(8, 0)].as_slice(), 1),
-        (
-            [Base2, Pair2(1, 3, 5), Rope2(1, 60, 1, 0), Recorded2(9, 5)].as_slice(),
-            TAKEN,
-        ),
-        (
-            [Base2, Pair2(1, 3, 5), Rope2(1, 60, 1, 0), Recorded2(9, 3)].as_slice(),
-            3,
-        ),
-        ([Base2, Advanced(61), Nothing, Base2].as_slice(), 2),
-        ([Unknown].as_slice(), 0),
-    ];
+// Asserts which payload is refused of each list, on a disk of a version.
+fn assert_refused(
+    rt: &impl Abort,
+    alloc: Global,
+    version: u32,
+    rows: &[(&[Part], u64)],
+) -> Result<(), Fail> {
     for (parts, wanted) in rows {
-        assert_eq!(rt; refused(alloc, 2, parts)?, wanted);
+        let found = refused(alloc, version, parts)?;
+        assert_eq!(rt; found, *wanted);
     }
     Ok(())
 }
 
+// Form 2 on a disk of version 2.
+const FORM_2: [(&[Part], u64); 30] = [
+    (&[], TAKEN),
+    (&[Base2], TAKEN),
+    (
+        &[
+            Base2,
+            Pair2(1, 3, 5),
+            File2(2, 0, 4),
+            Rope2(1, 60, 1, 9),
+            Rope2(2, 0, 2, 0),
+        ],
+        TAKEN,
+    ),
+    (&[Advanced(60), Base2], 1),
+    (&[Base2, Base2], 1),
+    (&[Base2, File2(2, 0, 3), File2(1, 0, 4)], 2),
+    (&[Base2, File2(1, 0, 3), File2(1, 1, 4)], 2),
+    (&[Base2, File2(8, 0, 3), File2(9, 0, 4)], 2),
+    (&[Base2, File2(1, 0, 15), File2(2, 0, 16)], 2),
+    (&[Base2, Pair2(1, 3, 3)], 1),
+    (&[Base2, File2(1, 0, 3), File2(2, 0, 3)], 2),
+    (&[Base2, Rope2(1, 60, 1, 0), File2(1, 0, 3)], 1),
+    (
+        &[Base2, File2(1, 0, 3), Rope2(1, 60, 1, 0), File2(2, 0, 4)],
+        3,
+    ),
+    (&[Base2, File2(1, 0, 3), Rope2(1, 61, 1, 0)], 2),
+    (&[Base2, File2(1, 0, 3), Rope2(1, 60, 1, 8)], 2),
+    (&[Base2, File2(1, 0, 3), Rope2(9, 60, 1, 0)], 2),
+    (
+        &[
+            Base2,
+            File2(1, 0, 3),
+            Rope2(2, 60, 1, 0),
+            Rope2(2, 60, 1, 0),
+        ],
+        3,
+    ),
+    (
+        &[Base2, File2(1, 0, 3), Advanced(61), Rope2(1, 60, 1, 0)],
+        3,
+    ),
+    (&[Base2, Advanced(61), File2(1, 0, 3)], 2),
+    (&[File2(1, 0, 3)], 0),
+    (&[Rope2(1, 0, 1, 0)], 0),
+    (&[Base1], 0),
+    (&[Base2, File1(1, 0, 3)], 1),
+    (&[Base2, File2(1, 0, 3), Rope1(1, 60, 1, 0)], 2),
+    (&[Base2, Recorded1(9, 0)], 1),
+    (&[Base2, Recorded2(8, 0)], 1),
+    (
+        &[Base2, Pair2(1, 3, 5), Rope2(1, 60, 1, 0), Recorded2(9, 5)],
+        TAKEN,
+    ),
+    (
+        &[Base2, Pair2(1, 3, 5), Rope2(1, 60, 1, 0), Recorded2(9, 3)],
+        3,
+    ),
+    (&[Base2, Advanced(61), Nothing, Base2], 2),
+    (&[Unknown], 0),
+];
+
+#[test]
+fn lists_in_form_2(rt: HostRuntime) -> Result<(), Fail> {
+    assert_refused(&rt, rt.alloc(), 2, &FORM_2)
+}
+
 // Both forms on a disk of version 1.
+const BOTH_FORMS: [(&[Part], u64); 13] = [
+    (
+        &[
+            Base1,
+            File1(1, 0, 3),
+            File1(2, 1, 4),
+            Rope1(1, 60, 1, 0),
+            Rope1(8, 0, 2, 8),
+        ],
+        TAKEN,
+    ),
+    (&[Base2, File2(1, 0, 3), Rope2(1, 60, 1, 0)], TAKEN),
+    (&[Base1, File1(1, 0, 3), File1(2, 0, 3)], 2),
+    (&[Base1, File1(2, 0, 3), File1(1, 0, 4)], 2),
+    (&[Base1, File1(1, 0, 3), Rope1(1, 61, 1, 0)], 2),
+    (&[Base1, File1(1, 0, 3), Rope1(1, 60, 2, 0)], 2),
+    (&[Base1, File2(1, 0, 3)], 1),
+    (&[Base2, File1(1, 0, 3)], 1),
+    (&[Base1, File1(1, 0, 3), Rope2(1, 60, 1, 0)], 2),
+    (&[Base1, Base2], 1),
+    (&[Recorded1(1, 0), Base1], 1),
+    (&[Recorded1(1, 0), Recorded1(2, 0)], 1),
+    (&[Recorded1(1, 0), Recorded1(2, 1), Recorded2(3, 2)], 2),
+];
+
 #[test]
 fn lists_in_both_forms(rt: HostRuntime) -> Result<(), Fail> {
-    use Part::*;
-    let alloc = rt.alloc();
-    let rows = [
-        (
-            [
-                Base1,
-                File1(1, 0, 3),
-                File1(2, 1, 4),
-                Rope1(1, 60, 1, 0),
-                Rope1(8, 0, 2, 8),
-            ]
-            .as_slice(),
-            TAKEN,
-        ),
-        (
-            [Base2, File2(1, 0, 3), Rope2(1, 60, 1, 0)].as_slice(),
-            TAKEN,
-        ),
-        ([Base1, File1(1, 0, 3), File1(2, 0, 3)].as_slice(), 2),
-        ([Base1, File1(2, 0, 3), File1(1, 0, 4)].as_slice(), 2),
-        ([Base1, File1(1, 0, 3), Rope1(1, 61, 1, 0)].as_slice(), 2),
-        ([Base1, File1(1, 0, 3), Rope1(1, 60, 2, 0)].as_slice(), 2),
-        ([Base1, File2(1, 0, 3)].as_slice(), 1),
-        ([Base2, File1(1, 0, 3)].as_slice(), 1),
-        ([Base1, File1(1, 0, 3), Rope2(1, 60, 1, 0)].as_slice(), 2),
-        ([Base1, Base2].as_slice(), 1),
-        ([Recorded1(1, 0), Base1].as_slice(), 1),
-        ([Recorded1(1, 0), Recorded1(2, 0)].as_slice(), 1),
-        (
-            [Recorded1(1, 0), Recorded1(2, 1), Recorded2(3, 2)].as_slice(),
-            2,
-        ),
-    ];
-    for (parts, wanted) in rows {
-        assert_eq!(rt; refused(alloc, 1, parts)?, wanted);
-    }
-    Ok(())
+    assert_refused(&rt, rt.alloc(), 1, &BOTH_FORMS)
 }
 
 // The address of a block of the first file.
@@ -246,6 +245,26 @@ fn address(parts: &Parts, index: u32) -> u64 {
     }
 }
 
+fn assert_blocks(rt: &impl Abort, parts: &Parts) {
+    let found = [
+        u64::from(parts.blocks.free()),
+        address(parts, 0),
+        address(parts, 1),
+    ];
+    assert_eq!(rt; found, [15, NOWHERE, 5]);
+}
+
+fn assert_numbers(rt: &impl Abort, parts: &Parts) {
+    let found = [parts.moment.number(), parts.next, u64::from(parts.form)];
+    assert_eq!(rt; found, [60, 9, 2]);
+}
+
+fn assert_rope(rt: &impl Abort, parts: &Parts) {
+    assert_eq!(rt; parts.ropes.count(), 1);
+    assert!(rt; parts.ropes.last(RopeId(1)) == Some(3));
+    assert!(rt; parts.ropes.idle(RopeId(1)).is_some());
+}
+
 // Rope 1 uses block 1 of file 1; block 0 is free at the end.
 #[test]
 fn a_base_is_opened(rt: HostRuntime) -> Result<(), Fail> {
@@ -253,12 +272,8 @@ fn a_base_is_opened(rt: HostRuntime) -> Result<(), Fail> {
     let Ok(parts) = opened(rt.alloc(), 2, &base)? else {
         return Err(Fail::new("the base is refused"));
     };
-    let counts = [parts.ropes.count() as u64, u64::from(parts.blocks.free())];
-    assert_eq!(rt; counts, [1, 15]);
-    assert_eq!(rt; [address(&parts, 0), address(&parts, 1)], [NOWHERE, 5]);
-    assert_eq!(rt; [parts.moment.number(), parts.next], [60, 9]);
-    assert_eq!(rt; parts.form, 2);
-    assert!(rt; parts.ropes.last(RopeId(1)) == Some(3));
-    assert!(rt; parts.ropes.idle(RopeId(1)).is_some());
+    assert_blocks(&rt, &parts);
+    assert_numbers(&rt, &parts);
+    assert_rope(&rt, &parts);
     Ok(())
 }

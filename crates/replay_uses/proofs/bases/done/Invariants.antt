@@ -1,5 +1,5 @@
 use Rattle.recovery.specs.Shown.{IsParts}
-use Rattle.checkpoint.proofs.tests.many.try_many.Given as goal
+use Rattle.replay_uses.proofs.bases.done.Given as goal
 
 abbrev pub invariant-changes : goal.invariant-changes
 invariant-changes l = IsParts l.shape l.parts
