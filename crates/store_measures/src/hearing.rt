@@ -11,7 +11,6 @@ use bench_report::plain::rows_sum;
 use bench_report::report::{hundredths_of, middle};
 use std::alloc::{AllocError, Global};
 use std::fs::{self, File};
-use std::hint::black_box;
 use std::io::{self, ErrorKind};
 use std::rt::{Clock, Files};
 use std::sync::Arc;
@@ -123,11 +122,20 @@ fn sum_blocks(disk: &mut FileDisk, room: &mut [u8]) -> io::Result<u64> {
     Ok(sum)
 }
 
-// How long that takes.
-fn time_bare<R: Clock>(rt: &R, disk: &mut FileDisk, room: &mut [u8]) -> io::Result<Duration> {
+// How long that takes, where it comes to this sum again.
+fn time_bare<R: Clock>(
+    rt: &R,
+    disk: &mut FileDisk,
+    room: &mut [u8],
+    sum: u64,
+) -> io::Result<Duration> {
     let start = Instant::now(rt)?;
-    let _sum = black_box(sum_blocks(disk, room)?);
-    start.elapsed(rt)
+    let again = sum_blocks(disk, room)?;
+    let took = start.elapsed(rt)?;
+    if again != sum {
+        return Err(io::Error::from(ErrorKind::InvalidData));
+    }
+    Ok(took)
 }
 
 // How many times as long hearing takes as reading and summing, in hundredths, in each run. The first run of each is for warming up.
@@ -139,11 +147,11 @@ fn compare<R: Clock>(
 ) -> io::Result<Vec<u128>> {
     let mut room = bytes_of(alloc, 0, BLOCK)?;
     let _warm = time_hearing(rt, store)?;
-    let _warm = time_bare(rt, disk, &mut room)?;
+    let sum = sum_blocks(disk, &mut room)?;
     let mut figures = Vec::new(alloc);
     for _ in 0..RUNS {
         let took = time_hearing(rt, store)?;
-        let bare = time_bare(rt, disk, &mut room)?;
+        let bare = time_bare(rt, disk, &mut room, sum)?;
         figures.push(hundredths_of(took, bare))?;
     }
     Ok(figures)
