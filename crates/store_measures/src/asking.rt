@@ -1,5 +1,8 @@
 //! Calls on rows, on the moment and of sweeps, as the number of rows grows.
 
+ghost use Rattle.std.specs.Prelude.{◌≡◌, ◌≤◌, IfOk, length, true};
+ghost use Rattle.voice_model.specs.Spelling.{is_key};
+
 use crate::stores::{ask, new_store, record, tapes_of};
 use bench_report::disks::{bytes_of, memory_disk, shape_of, size_of};
 use bench_report::report::middle;
@@ -54,14 +57,18 @@ struct Rows {
 }
 
 // A key that spells a number.
-fn key_of(number: u32) -> io::Result<Key> {
+fn key_of(number: u32) -> io::Result<Key>
+    ensures { IfOk result (λ key. is_key key ≡ true) }
+{
     match Key::new(&number.to_be_bytes()) {
         Ok(key) => Ok(key),
         Err(_) => Err(io::Error::from(ErrorKind::InvalidInput)),
     }
 }
 
-fn note_of(bytes: &[u8]) -> io::Result<Note> {
+fn note_of(bytes: &[u8]) -> io::Result<Note>
+    ensures { IfOk result (λ note. length note ≤ 128) }
+{
     match Note::new(bytes) {
         Ok(note) => Ok(note),
         Err(_) => Err(io::Error::from(ErrorKind::InvalidInput)),
