@@ -1,0 +1,7 @@
+mod Showing
+mod Counting
+mod LetGo
+mod Asked
+mod Addressed
+mod Served
+mod HeldAgain

@@ -1,0 +1,8 @@
+use Rattle.std.proofs.Common.{◌<◌, sym, subst, arith}
+use Rattle.lane_calls.proofs.Served.{no_job, a_job, it_comes, is_out, is_home, may_feed}
+use Rattle.lane_calls.proofs.feeding.refused.Goals as goal
+
+pub returns-in_default-clause-refused : goal.returns-in_default-clause-refused
+returns-in_default-clause-refused c = λ fill made s tapes back h comes.
+    let low = subst (λ m. m < c.args.shape.now.lanes) c.lane.view_is c.if-lane-shape.false in
+    sym (no_job fill c.args.lanes.now made s tapes back c.queues.result.now c.args.lane c.args.shape.now.lanes h c.requires low c.queues.ensures.value c.in_default.ensures.value)
