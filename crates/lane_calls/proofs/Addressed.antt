@@ -1,14 +1,12 @@
 -- The blocks of a window that comes next are used, and have addresses.
-use Rattle.std.proofs.Common.{◌≡◌, ℕ, zero, suc, ◌+◌, ◌/◌, ◌<◌, ◌≤◌, Bool, true, false, ◌||◌, ◌&&◌, cond, ◌==◌, List, [], ◌∷◌, ◌++◌, length, take, drop, Some, refl, sym, ◌∙◌, ap, subst, arith}
+use Rattle.std.proofs.Common.{◌≡◌, ℕ, zero, suc, ◌+◌, ◌/◌, ◌<◌, ◌≤◌, true, false, cond, List, [], ◌∷◌, ◌++◌, take, drop, Some, refl, sym, ◌∙◌, ap, subst, arith}
 use Rattle.std.specs.Prelude.{slice_get}
-use Rattle.std.proofs.lemmas.Bool.{eq-eqb}
 use Rattle.voice_units.specs.declared.pieces.Piece.{Piece}
 use Rattle.voice_units.specs.Spots.{Spot, spots_in, spots_from, spots_of, stretches, window}
 use Rattle.voice_units.specs.Blocks.{BlockPair, same_pair, pairs_at, has_pair}
 use Rattle.voice_model.specs.Replay.{Rebuilt}
 use Rattle.voice_model.proofs.PlacesKept.{same_itself, has_pair-append}
-use Rattle.voice_blocks.specs.Holders.{Holders}
-use Rattle.rope_table.specs.Table.{Table, Counts, Every, uses_at, uses_in, pieces_in, pairs_in, pair_of}
+use Rattle.rope_table.specs.Table.{Table, Counts, Every, uses_in, pairs_in, pair_of}
 use Rattle.recovery.specs.declared.parts.Parts.{Parts}
 use Rattle.running_tables.specs.Running.{Runs}
 use Rattle.running_tables.proofs.Codes.{or_left, or_right, has_append}
@@ -16,7 +14,7 @@ use Rattle.running_tables.proofs.Recounted.{used_once}
 use Rattle.play_queue.specs.declared.jobs.Job.{Job}
 use Rattle.play_queue.specs.Queued.{lane_of}
 use Rattle.playing.specs.Frames.{HaveAddresses, uses_of}
-use Rattle.playing.specs.Held.{held_in, held_by, held_one}
+use Rattle.playing.specs.Held.{held_in, held_by}
 use Rattle.playing.specs.Lanes.{stopped_at, next_window}
 use Rattle.playing.specs.Windows.{AreStretches}
 use Rattle.playing.proofs.Samples.{stretches_are, take_stretches, window_spots}

@@ -1,27 +1,27 @@
 -- What calls of lanes are refused by, and what they leave where nothing refuses them.
-use Rattle.std.proofs.Common.{◌≡◌, ℕ, ◌+◌, ◌<◌, ◌≤◌, Bool, true, false, nat_le, nat_lt, List, [], ◌∷◌, ◌++◌, map, length, set, Option, Some, None, refl, sym, ◌∙◌, ap, subst, arith}
-use Rattle.std.specs.Prelude.{is_some, is_none, ◌&&◌, not, count_by}
-use Rattle.std.proofs.lemmas.Bool.{leb-true, leb-false, le-leb}
+use Rattle.std.proofs.Common.{◌≡◌, ℕ, ◌+◌, ◌<◌, ◌≤◌, Bool, true, false, nat_le, List, [], ◌∷◌, ◌++◌, map, length, set, Option, Some, None, refl, sym, ◌∙◌, ap, subst, arith}
+use Rattle.std.specs.Prelude.{is_some, not, count_by}
+use Rattle.std.proofs.lemmas.Bool.{leb-true, le-leb}
 use Rattle.std.proofs.lemmas.List.{length-map, append-nil}
 use Rattle.voice_units.specs.declared.pieces.Piece.{Piece}
 use Rattle.voice_units.specs.Spots.{Spot, spots_of, pieces_of, samples_in, slice, nowhere}
 use Rattle.voice_units.specs.Blocks.{BlockPair, pairs_at, has_pair}
 use Rattle.voice_units.proofs.PiecesOfRopes.{spots_of-runs}
 use Rattle.voice_model.specs.Samples.{Tagged}
-use Rattle.voice_model.specs.State.{State, Durable, lane_at, samples_of}
+use Rattle.voice_model.specs.State.{State, Durable, lane_at}
 use Rattle.voice_model.specs.Step.{refusal, first_of, on_lanes, when, if_no_lane, if_unknown, if_outside}
 use Rattle.voice_model.specs.Replay.{Rebuilt, used_pairs}
 use Rattle.voice_model.specs.declared.calls.Call.TheVariants as calls
 use Rattle.voice_model.specs.declared.calls.Reply.TheVariants as replies
 use Rattle.voice_model.specs.declared.calls.Why.{Why}
 use Rattle.voice_model.specs.declared.calls.Why.TheVariants as why
-use Rattle.rope_table.specs.Table.{Table, Counts, uses_at, uses_by, uses_in, pieces_at, pair_of}
+use Rattle.rope_table.specs.Table.{Table, Counts, uses_at, uses_by, uses_in, pair_of}
 use Rattle.recovery.specs.declared.parts.Parts.{Parts}
 use Rattle.recovery.specs.Shown.{Shows}
 use Rattle.recovery.proofs.Ropes.{cons_same}
 use Rattle.voice_blocks.specs.Holders.{BlocksView}
 use Rattle.edits.specs.Tables.{pieces_here, first_missing}
-use Rattle.edits.proofs.Seen.{no_rope, a_rope, its_pieces, its_length, rope_length, missing_shown}
+use Rattle.edits.proofs.Seen.{rope_length, missing_shown}
 use Rattle.edits.proofs.Refusals.{stops, goes_on}
 use Rattle.frame_pool.specs.Pool.{Identity, block_of}
 use Rattle.running_tables.specs.Running.{Runs}
@@ -29,7 +29,6 @@ use Rattle.running_tables.proofs.Recounted.{recounted}
 use Rattle.running_tables.proofs.Steps as steps
 use Rattle.play_queue.specs.declared.jobs.Job.{Job}
 use Rattle.play_queue.specs.Queued.{lane_of, stopped_job}
-use Rattle.playing.specs.declared.blocks.Block.{Block}
 use Rattle.playing.specs.Frames.{FramesState, AreUsed, uses_of, resident_at, Forgets, ChangesLaneAlone}
 use Rattle.playing.specs.Held.{LetsGo, held_in, held_by}
 use Rattle.playing.specs.Lanes.{LanesState, new_job}
@@ -37,7 +36,7 @@ use Rattle.playing.specs.Shown.{shown_job, state_with}
 use Rattle.playing.proofs.Served as served
 use Rattle.playing.proofs.Holding.{stopped_none, split_lane}
 use Rattle.playing.proofs.Letting.{uses_in-append, held-append}
-use Rattle.lane_calls.specs.Lanes.{ShowsLanes, Stands, ArePledged}
+use Rattle.lane_calls.specs.Lanes.{Stands, ArePledged}
 use Rattle.lane_calls.specs.Answers.{IsAnswered, MayPlay}
 use Rattle.lane_calls.proofs.Showing.{spots_here, state_shown, passage_filled, shows_set, shows_made}
 use Rattle.lane_calls.proofs.Counting.{part_used, uses_set, uses_left}

@@ -1,6 +1,5 @@
 -- How often blocks are used, by live ropes and by the passages of lanes.
-use Rattle.std.proofs.Common.{◌≡◌, ℕ, zero, suc, ◌+◌, ◌==◌, ◌<◌, ◌≤◌, ◌^◌, Bool, true, false, ◌||◌, cond, nat_lt, List, [], ◌∷◌, ◌++◌, map, length, take, drop, set, Option, Some, None, refl, sym, ◌∙◌, ap, subst, arith}
-use Rattle.std.specs.Prelude.{flat_map}
+use Rattle.std.proofs.Common.{◌≡◌, ℕ, zero, suc, ◌+◌, ◌==◌, ◌<◌, ◌≤◌, ◌^◌, Bool, true, false, ◌||◌, cond, List, [], ◌∷◌, ◌++◌, length, take, drop, set, Option, Some, sym, ◌∙◌, ap, subst, arith}
 use Rattle.std.proofs.lemmas.Bool.{lt-ltb, ltb-true}
 use Rattle.std.proofs.lemmas.List.{length-map}
 use Rattle.voice_units.specs.declared.pieces.Piece.{Piece}
@@ -13,7 +12,7 @@ use Rattle.voice_model.specs.Valid.{IsRebuilt}
 use Rattle.voice_model.proofs.FitsOfCalls.{rope_limits}
 use Rattle.voice_model.proofs.PlacesKept.{has_pair-append, all_samples}
 use Rattle.rope_table.specs.declared.ropes.Rope.{Rope}
-use Rattle.rope_table.specs.Table.{Table, Counts, uses_at, uses_by, uses_in, pieces_in}
+use Rattle.rope_table.specs.Table.{Table, Counts, uses_at, uses_in, pieces_in}
 use Rattle.recovery.specs.declared.parts.Parts.{Parts}
 use Rattle.recovery.specs.Shown.{Shows, plain_sample}
 use Rattle.recovery.proofs.Ropes.{uses_shown}

@@ -1,6 +1,6 @@
 -- The tables stay those of a running manager as passages come and go.
-use Rattle.std.proofs.Common.{◌≡◌, ◌⊎◌, inl, inr, ℕ, ◌+◌, ◌<◌, ◌≤◌, ◌==◌, Bool, true, false, ◌||◌, ◌&&◌, cond, nat_lt, List, [], ◌∷◌, ◌++◌, length, Option, Some, None, refl, sym, ◌∙◌, ap, subst, arith}
-use Rattle.std.proofs.lemmas.Bool.{lt-ltb, ltb-true, eqb-true, ltb-false}
+use Rattle.std.proofs.Common.{◌≡◌, ◌⊎◌, inl, inr, ℕ, ◌<◌, ◌≤◌, ◌==◌, Bool, true, false, ◌||◌, ◌&&◌, cond, nat_lt, List, [], ◌∷◌, ◌++◌, Option, Some, None, refl, sym, ◌∙◌, ap, subst, arith}
+use Rattle.std.proofs.lemmas.Bool.{ltb-true, eqb-true, ltb-false}
 use Rattle.std.proofs.lemmas.List.{append_assoc}
 use Rattle.voice_units.specs.declared.pieces.Piece.{Piece}
 use Rattle.voice_units.specs.Spots.{Spot, spots_of}
@@ -10,7 +10,7 @@ use Rattle.voice_model.specs.Replay.{Placed, Rebuilt, used_pairs}
 use Rattle.voice_model.specs.Valid.{Every}
 use Rattle.voice_model.proofs.KeptByChanges.{every-imply}
 use Rattle.voice_model.proofs.Order.{every-both, every-split}
-use Rattle.voice_blocks.specs.Holders.{Holders, holder_at, block_of}
+use Rattle.voice_blocks.specs.Holders.{holder_at, block_of}
 use Rattle.voice_blocks.specs.declared.owner.Owner.{Owner}
 use Rattle.voice_blocks.specs.declared.owner.Owner.TheVariants.{File, Taking}
 use Rattle.voice_blocks.specs.declared.owner.Holder.{Holder}
@@ -19,7 +19,7 @@ use Rattle.collector.specs.Freed.{freed, goes}
 use Rattle.recovery.specs.declared.parts.Parts.{Parts}
 use Rattle.recovery.specs.Shown.{Shows}
 use Rattle.checkpoint.specs.Blocks.{IsHeld}
-use Rattle.running_tables.specs.Running.{taken, is_wanted, GivesJust, IsGiven, Runs}
+use Rattle.running_tables.specs.Running.{is_wanted, GivesJust, Runs}
 use Rattle.running_tables.proofs.Codes.{either_way, or_left, or_right, has_append}
 use Rattle.running_tables.proofs.Passages.{pairs_after}
 use Rattle.running_tables.proofs.Recounted.{used_once, once_used, one_has}

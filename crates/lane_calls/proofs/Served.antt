@@ -8,7 +8,7 @@ use Rattle.voice_units.specs.Blocks.{BlockPair}
 use Rattle.voice_model.specs.Samples.{Tagged}
 use Rattle.voice_model.specs.State.{State, Durable, lane_at}
 use Rattle.voice_model.specs.State as model
-use Rattle.voice_model.specs.Step.{Outcome, first_of, first_job, window_of, when, refusal, reply_of, on_lanes, reaches_device, state_by}
+use Rattle.voice_model.specs.Step.{Outcome, first_of, first_job, window_of, when, refusal, reaches_device, state_by}
 use Rattle.voice_model.specs.Replay.{Rebuilt}
 use Rattle.voice_model.specs.declared.calls.Call.TheVariants as calls
 use Rattle.voice_model.specs.declared.calls.Why.{Why}
@@ -16,7 +16,7 @@ use Rattle.voice_model.specs.declared.calls.Why.TheVariants as why
 use Rattle.edits.proofs.Refusals.{stops, goes_on}
 use Rattle.recovery.proofs.Ropes.{cons_same}
 use Rattle.voice_model.specs.declared.calls.Reply.TheVariants as replies
-use Rattle.rope_table.specs.Table.{Table, Counts, Every, uses_in}
+use Rattle.rope_table.specs.Table.{Table, Counts, uses_in}
 use Rattle.recovery.specs.declared.parts.Parts.{Parts}
 use Rattle.frame_pool.specs.Pool.{Identity, block_of}
 use Rattle.running_tables.specs.Running.{Runs}
@@ -34,7 +34,6 @@ use Rattle.playing.specs.declared.turns.Fed as turn
 use Rattle.playing.specs.declared.turns.Fed.TheVariants as turns
 use Rattle.playing.proofs.Served as served
 use Rattle.playing.proofs.Holding.{sent_same, home_same, stopped_left, first_left, still_used}
-use Rattle.playing.proofs.Letting.{uses_in-append}
 use Rattle.lane_calls.specs.Lanes.{ShowsLanes, Stands, ArePledged}
 use Rattle.lane_calls.specs.Answers.{IsAnswered, IsServed, IsTold, IsLetGo, HaveForgotten, MayFeed, MayEnd, HasBytes, BringsBack, HasStopped}
 use Rattle.lane_calls.specs.declared.outcomes.Fed.{Fed}

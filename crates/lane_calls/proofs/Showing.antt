@@ -1,17 +1,15 @@
 -- The ropes and the lanes of a state, as the tables and the lanes of the program show them.
-use Rattle.std.proofs.Common.{◌≡◌, ℕ, ◌+◌, ◌<◌, ◌≤◌, ◌^◌, ◌==◌, Bool, true, false, cond, List, [], ◌∷◌, ◌++◌, map, length, take, drop, set, Option, Some, None, refl, sym, ◌∙◌, ap, subst, arith}
+use Rattle.std.proofs.Common.{◌≡◌, ℕ, ◌<◌, ◌==◌, Bool, true, false, cond, List, [], ◌∷◌, map, length, take, drop, set, Option, Some, None, refl, sym, ◌∙◌, ap, subst}
 use Rattle.std.specs.Prelude.{option_map, unwrap_or}
 use Rattle.std.proofs.lemmas.Bool.{eqb-true, eq-eqb}
-use Rattle.std.proofs.lemmas.List.{get_or-set_same, get_or-set_other, length-set, take-map, drop-map, length-map}
+use Rattle.std.proofs.lemmas.List.{get_or-set_same, get_or-set_other, length-set, take-map, drop-map}
 use Rattle.voice_units.specs.declared.pieces.Piece.{Piece}
-use Rattle.voice_units.specs.Spots.{Spot, spots_of, pieces_of, samples_in, slice, nowhere}
+use Rattle.voice_units.specs.Spots.{Spot, spots_of, pieces_of, slice, nowhere}
 use Rattle.voice_units.proofs.PiecesOfRopes.{spots_of-runs}
 use Rattle.voice_model.specs.Samples.{Tagged, spot_of}
 use Rattle.voice_model.specs.State.{State, Durable, Live, LaneState, lane_at, quiet_lane, rope_at, samples_of, samples_or_none}
 use Rattle.voice_model.specs.Replay.{Rebuilt, live_by, durable_by}
-use Rattle.rope_algebra.proofs.Parts.{length-spots_of}
 use Rattle.rope_table.specs.declared.ropes.Rope.{Rope}
-use Rattle.rope_table.specs.Table.{rope_of}
 use Rattle.recovery.specs.declared.parts.Parts.{Parts}
 use Rattle.recovery.specs.Shown.{Shows, shown_rope}
 use Rattle.recovery.proofs.Ropes.{rope_of-shown}

@@ -1,5 +1,5 @@
-use Rattle.std.proofs.Common.{◌<◌, sym, subst, arith}
-use Rattle.lane_calls.proofs.Served.{no_job, a_job, it_comes, is_out, is_home, may_feed}
+use Rattle.std.proofs.Common.{◌<◌, sym, subst}
+use Rattle.lane_calls.proofs.Served.{no_job}
 use Rattle.lane_calls.proofs.feeding.refused.Goals as goal
 
 pub returns-in_default-clause-refused : goal.returns-in_default-clause-refused
