@@ -1,14 +1,8 @@
-//! Tests of changes: how the journal spells them, what calls come to, and changes made ready, done and given back.
+//! Tests of changes: how the journal spells them, what calls on rows come to, and changes of rows made ready.
 #![tactic(auto)]
 
 #[cfg(test)]
 mod calls;
-#[cfg(test)]
-mod changes;
-#[cfg(test)]
-mod edited;
-#[cfg(test)]
-mod ropes;
 #[cfg(test)]
 mod rows;
 #[cfg(test)]

@@ -1,7 +1,7 @@
 use Rattle.std.proofs.Common.{[], ◌∙◌}
 use Rattle.voice_model.specs.Replay.{acted}
 use Rattle.recovery.proofs.Rebuilding.{acted_shape}
-use Rattle.change_uses.proofs.ropes.finish.Goals as goal
+use Rattle.next_uses.proofs.ropes.finish.Goals as goal
 
 pub perform-requires : goal.perform-requires
 perform-requires c = ([], [], c.requires.0, c.requires.1, c.requires.2)

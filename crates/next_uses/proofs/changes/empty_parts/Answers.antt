@@ -7,7 +7,7 @@ use Rattle.recovery.specs.declared.parts.Parts.{Parts}
 use Rattle.recovery.specs.Shown.{Rebuilds}
 use Rattle.running_tables.specs.Running.{AtRest}
 use Rattle.running_tables.proofs.Begins.{begins}
-use Rattle.change_uses.proofs.changes.empty_parts.Goals as goal
+use Rattle.next_uses.proofs.changes.empty_parts.Goals as goal
 
 at_rest : (shape : Shape) (result : Result Parts NoMemory) → IfOk result (λ parts. Rebuilds parts (nothing_rebuilt shape)) → IfOk result (λ parts. AtRest shape parts)
 at_rest shape (Ok parts) h = record { what = nothing_rebuilt shape; runs = begins parts (nothing_rebuilt shape) h; in_shape = refl }

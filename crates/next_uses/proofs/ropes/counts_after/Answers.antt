@@ -1,6 +1,6 @@
 use Rattle.std.proofs.Common.{[], arith}
 use Rattle.next_ropes.specs.Ready.{next_change}
-use Rattle.change_uses.proofs.ropes.counts_after.Goals as goal
+use Rattle.next_uses.proofs.ropes.counts_after.Goals as goal
 
 pub ready_recording-requires-clause-parts : goal.ready_recording-requires-clause-parts
 ready_recording-requires-clause-parts c = record { held = []; takings = []; what = c.requires.what; runs = c.requires.runs; in_shape = c.requires.in_shape }

@@ -1,7 +1,7 @@
 use Rattle.std.proofs.Common.{[], ◌∙◌}
 use Rattle.voice_model.specs.Replay.{acted}
 use Rattle.recovery.proofs.Rebuilding.{acted_shape}
-use Rattle.change_uses.proofs.changes.finish.Goals as goal
+use Rattle.next_uses.proofs.changes.finish.Goals as goal
 
 pub perform-requires : goal.perform-requires
 perform-requires c = ([], [], c.requires.b, c.requires.c, c.requires.next)

@@ -7,7 +7,7 @@ use Rattle.voice_model.specs.declared.changes.Change.TheVariants as changes
 use Rattle.ready_changes.specs.Ready.{IsReady, MayBeReady, change_for, later_change}
 use Rattle.ready_changes.specs.declared.ReadyChange.{ReadyChange}
 use Rattle.next_changes.proofs.Given.{other_next}
-use Rattle.change_uses.proofs.changes.advance.Goals as goal
+use Rattle.next_uses.proofs.changes.advance.Goals as goal
 
 -- what is ready is a later moment
 is_later : (spare now moment : ℕ) (d : Durable Spot) (ready : ReadyChange) → MayBeReady spare d (Some ready) (later_change now moment) → (nat_lt now moment ≡ true) × IsReady spare d ready (changes.Advanced moment)

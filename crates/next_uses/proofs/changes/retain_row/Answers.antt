@@ -5,7 +5,7 @@ use Rattle.voice_model.specs.declared.changes.Change.TheVariants as changes
 use Rattle.running_tables.proofs.Taken.{reshown}
 use Rattle.recovery.proofs.Showing.{live_shown}
 use Rattle.next_changes.proofs.Given.{other_next}
-use Rattle.change_uses.proofs.changes.retain_row.Goals as goal
+use Rattle.next_uses.proofs.changes.retain_row.Goals as goal
 
 pub returns-in_default-ready_retain : goal.returns-in_default-ready_retain
 returns-in_default-ready_retain c =

@@ -2,7 +2,7 @@ use Rattle.std.proofs.Common.{◌≡◌, [], Some, ◌∙◌, ap, arith}
 use Rattle.voice_model.specs.declared.changes.Change.TheVariants as changes
 use Rattle.rope_table.specs.Table.{pieces_at}
 use Rattle.rope_table.proofs.Checked.{used_by_rope}
-use Rattle.change_uses.proofs.ropes.copy_first.Goals as goal
+use Rattle.next_uses.proofs.ropes.copy_first.Goals as goal
 
 pub ready_edit-requires-clause-parts : goal.ready_edit-requires-clause-parts
 ready_edit-requires-clause-parts c = ([], [], c.requires.what, c.requires.runs)
