@@ -6,8 +6,6 @@ use std::env::{Env, args};
 use std::fs::File;
 use std::io;
 use std::rt::{Clock, Files};
-use std::sync::Wait;
-use std::thread::Threads;
 
 const MEASUREMENTS: &str = "\
 voice_bench MEASUREMENT: prints figures of this machine.
@@ -21,14 +19,6 @@ voice_bench MEASUREMENT: prints figures of this machine.
   replay   replay of 16 MiB of changes, against reading them and looking each number up
   mail     replay of mail that is kept and forgotten, by the number of changes
   compact  the base of a state, by the number of ropes
-  record   recording 48 MiB in pieces of 1 MiB in memory, against bare calls
-  edits    300 edits to a file of this folder, against bare calls
-  hearing  talk in a rope of 64 MiB in a file of this folder, against reading and summing its blocks
-  growth   the last thousand of 20,000 edits in memory, against the first
-  open     opening a store of 20,000 ropes, against parsing its journal
-  calls    calls on rows, on the moment and of sweeps, by the number of rows
-  turns    turns a second with 1, 2, 4 and 16 callers
-  serve    calls through a server with 1, 2, 4 and 16 callers on threads, against the store alone
   all      each of these
 ";
 
@@ -42,13 +32,11 @@ fn words<R: Env + AllocGlobal>(rt: &R) -> io::Result<Vec<String>> {
     Ok(words)
 }
 
-fn measure<R: Print + Clock + AllocGlobal + Files<File = File> + Threads + Wait + Sync>(
+fn measure<R: Print + Clock + AllocGlobal + Files<File = File>>(
     rt: &R,
     word: &str,
 ) -> io::Result<()> {
-    table_measures::measure(rt, word)?;
-    store_measures::measure(rt, word)?;
-    turn_measures::measure(rt, word)
+    table_measures::measure(rt, word)
 }
 
 fn main(rt: HostRuntime) -> io::Result<()> {

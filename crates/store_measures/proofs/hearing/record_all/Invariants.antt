@@ -1,6 +1,0 @@
-use Rattle.std.proofs.Common.{◌≡◌}
-use Rattle.voice_store.specs.Shown.{tapes_in}
-use Rattle.store_measures.proofs.hearing.record_all.Given as goal
-
-abbrev pub invariant-loop : goal.invariant-loop
-invariant-loop g l = tapes_in l.store ≡ l.tapes
