@@ -42,7 +42,7 @@ fn reduced(sums: u32x8) -> u32
     sums.strict_reduce_sum()
 }
 
-// The loudness of n bytes, a multiple of 32, from a place on: a sum in lanes, which are put together once.
+// The loudness of n bytes, a multiple of 32, from a place on: sums in two rows of lanes, which are put together once.
 fn blocks_loud(bytes: &[u8], at: usize, n: usize) -> u32
     requires whole { n % 32 ≡ 0 }
     requires short { n ≤ 2 ^ 16 }
@@ -50,12 +50,18 @@ fn blocks_loud(bytes: &[u8], at: usize, n: usize) -> u32
     ensures { result ≡ sum_by loud (slice_range bytes.now at (at + n)) }
 {
     let mut sums = u32x8::splat(0);
+    let mut others = u32x8::splat(0);
     let mut done = 0;
+    'rows: while n - done >= 64 {
+        sums = add_lanes(sums, block_lanes(bytes, at + done));
+        others = add_lanes(others, block_lanes(bytes, at + done + 32));
+        done += 64;
+    }
     'lanes: while done < n {
         sums = add_lanes(sums, block_lanes(bytes, at + done));
         done += 32;
     }
-    reduced(sums)
+    reduced(sums) + reduced(others)
 }
 
 fn byte_loud(b: u8) -> u8
