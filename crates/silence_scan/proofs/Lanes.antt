@@ -62,24 +62,20 @@ block_added bs block at done sums next e f g =
     let one : sum_l block ≡ sum_by loud (take 32 (drop done (drop at bs))) = ap sum_l f ∙ (sum_l-loud (slice_range bs (at + done) (at + done + 32)) ∙ (ranged bs (at + done) 32 ∙ ap (λ xs. sum_by loud (take 32 xs)) (sym (drop-drop done at bs)))) in
     g ∙ more (drop at bs) done 32 sums (sum_l block) e one
 
--- a step over a block of lanes, where two rows are summed
-pub row_added : (bs block : List ℕ) (at done p sums others next : ℕ) → p ≡ at + done → sums + others ≡ sum_by loud (take done (drop at bs)) → block ≡ map loud (slice_range bs p (p + 32)) → next ≡ sums + sum_l block → next + others ≡ sum_by loud (take (done + 32) (drop at bs))
-row_added bs block at done p sums others next here e f g =
-    let placed : block ≡ map loud (slice_range bs (at + done) (at + done + 32)) = f ∙ ap (λ k. map loud (slice_range bs k (k + 32))) here in
-    let sum : next + others ≡ sums + others + sum_l block = omega (arith, g) in
-    block_added bs block at done (sums + others) (next + others) e placed sum
+-- a loudness is at most 127
+pub louds_small : (xs : List ℕ) → Each1 (λ a. a ≤ 127) (map loud xs)
+louds_small [] = tt
+louds_small (x ∷ xs) = (omega arith, louds_small xs)
 
--- the same, of two blocks side by side
-pub rows_added : (bs first second : List ℕ) (at done sums others one two : ℕ) → sums + others ≡ sum_by loud (take done (drop at bs)) → first ≡ map loud (slice_range bs (at + done) (at + done + 32)) → one ≡ sums + sum_l first → second ≡ map loud (slice_range bs (at + done + 32) (at + done + 32 + 32)) → two ≡ others + sum_l second → one + two ≡ sum_by loud (take (done + 64) (drop at bs))
-rows_added bs first second at done sums others one two e f g k h =
-    let half : one + others ≡ sum_by loud (take (done + 32) (drop at bs)) = row_added bs first at done (at + done) sums others one refl e f g in
-    let turned : others + one ≡ sum_by loud (take (done + 32) (drop at bs)) = omega (arith, half) in
-    let here : at + done + 32 ≡ at + (done + 32) = omega arith in
-    let whole : two + one ≡ sum_by loud (take (done + 32 + 32) (drop at bs)) = row_added bs second at (done + 32) (at + done + 32) others one two here turned k h in
-    let far : done + 32 + 32 ≡ done + 64 = omega arith in
-    let same : sum_by loud (take (done + 32 + 32) (drop at bs)) ≡ sum_by loud (take (done + 64) (drop at bs)) = ap (λ n. sum_by loud (take n (drop at bs))) far in
-    omega (arith, whole, same)
+-- two blocks side by side
+pub pair_sum : (bs low high : List ℕ) (at : ℕ) → low ≡ map loud (slice_range bs at (at + 32)) → high ≡ map loud (slice_range bs (at + 32) (at + 32 + 32)) → sum_l low + sum_l high ≡ sum_by loud (slice_range bs at (at + 64))
+pair_sum bs low high at e f =
+    let one : sum_l low ≡ sum_by loud (take 32 (drop at bs)) = ap sum_l e ∙ (sum_l-loud (slice_range bs at (at + 32)) ∙ ranged bs at 32) in
+    let two : sum_l high ≡ sum_by loud (take 32 (drop 32 (drop at bs))) = ap sum_l f ∙ (sum_l-loud (slice_range bs (at + 32) (at + 32 + 32)) ∙ (ranged bs (at + 32) 32 ∙ ap (λ xs. sum_by loud (take 32 xs)) (sym (drop-drop 32 at bs)))) in
+    more (drop at bs) 32 32 (sum_l low) (sum_l high) one two ∙ sym (ranged bs at 64)
 
--- each row has no more than both
-pub rows_small : (bs : List ℕ) (done sums others : ℕ) → done ≤ 2 ^ 16 → sums + others ≡ sum_by loud (take done bs) → (sums + others ≤ 2 ^ 31)
-rows_small bs done sums others le e = omega (arith, e, taken_small bs done le)
+-- a step of `blocks_loud` over two blocks
+pub pair_added : (bs : List ℕ) (at done sums pair next : ℕ) → sums ≡ sum_by loud (take done (drop at bs)) → pair ≡ sum_by loud (slice_range bs (at + done) (at + done + 64)) → next ≡ sums + pair → next ≡ sum_by loud (take (done + 64) (drop at bs))
+pair_added bs at done sums pair next e f g =
+    let there : pair ≡ sum_by loud (take 64 (drop done (drop at bs))) = f ∙ (ranged bs (at + done) 64 ∙ ap (λ xs. sum_by loud (take 64 xs)) (sym (drop-drop done at bs))) in
+    g ∙ more (drop at bs) done 64 sums pair e there

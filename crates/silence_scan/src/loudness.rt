@@ -26,6 +26,16 @@ fn block_lanes(bytes: &[u8], at: usize) -> u8x32
     loud_lanes(u8x32::from_slice(&bytes[at..]))
 }
 
+// The loudness of 64 bytes, two in each lane.
+fn pair_lanes(bytes: &[u8], at: usize) -> u8x32
+    requires { at + 64 ≤ length bytes.now }
+    ensures { sum_l result ≡ sum_by loud (slice_range bytes.now at (at + 64)) }
+{
+    let low = block_lanes(bytes, at);
+    let high = block_lanes(bytes, at + 32);
+    low.strict_add(high)
+}
+
 // Each lane of 32 bits gains the sum of four bytes.
 fn add_lanes(sums: u32x8, v: u8x32) -> u32x8
     requires { sum_l sums ≤ 2 ^ 31 }
@@ -42,7 +52,7 @@ fn reduced(sums: u32x8) -> u32
     sums.strict_reduce_sum()
 }
 
-// The loudness of n bytes, a multiple of 32, from a place on: sums in two rows of lanes, which are put together once.
+// The loudness of n bytes, a multiple of 32, from a place on: a sum in lanes, which are put together once.
 fn blocks_loud(bytes: &[u8], at: usize, n: usize) -> u32
     requires whole { n % 32 ≡ 0 }
     requires short { n ≤ 2 ^ 16 }
@@ -50,18 +60,16 @@ fn blocks_loud(bytes: &[u8], at: usize, n: usize) -> u32
     ensures { result ≡ sum_by loud (slice_range bytes.now at (at + n)) }
 {
     let mut sums = u32x8::splat(0);
-    let mut others = u32x8::splat(0);
     let mut done = 0;
-    'rows: while n - done >= 64 {
-        sums = add_lanes(sums, block_lanes(bytes, at + done));
-        others = add_lanes(others, block_lanes(bytes, at + done + 32));
+    'pairs: while n - done >= 64 {
+        sums = add_lanes(sums, pair_lanes(bytes, at + done));
         done += 64;
     }
     'lanes: while done < n {
         sums = add_lanes(sums, block_lanes(bytes, at + done));
         done += 32;
     }
-    reduced(sums) + reduced(others)
+    reduced(sums)
 }
 
 fn byte_loud(b: u8) -> u8

@@ -1,48 +1,34 @@
-use Rattle.std.proofs.Common.{arith, ◌≤◌, ◌+◌, ◌^◌, refl, drop}
+use Rattle.std.proofs.Common.{arith, ◌≤◌, ◌^◌, drop, sum_by, take}
 use Rattle.std.specs.Simd.Lanes.{sum_l}
-use Rattle.silence_scan.proofs.Lanes.{rows_small, row_added, rows_added}
+use Rattle.voice_model.specs.Talk.{loud}
+use Rattle.silence_scan.proofs.Lanes.{taken_small, block_added, pair_added}
 use Rattle.silence_scan.proofs.loudness.blocks_loud.Goals as goal
 
 pub add_lanes-sums-requires : goal.add_lanes-sums-requires
 add_lanes-sums-requires c =
-    let small : sum_l c.rows.sums + sum_l c.rows.others ≤ 2 ^ 31 = rows_small (drop c.args.at c.args.bytes.now) c.rows.done (sum_l c.rows.sums) (sum_l c.rows.others) (omega (arith, c.rows.invariant.0, c.requires.short)) c.rows.invariant.2 in
-    omega (arith, small)
+    let small : sum_by loud (take c.pairs.done (drop c.args.at c.args.bytes.now)) ≤ 2 ^ 31 = taken_small (drop c.args.at c.args.bytes.now) c.pairs.done (omega (arith, c.pairs.invariant.0, c.requires.short)) in
+    omega (arith, c.pairs.invariant.2, small)
 
-pub add_lanes-others-requires : goal.add_lanes-others-requires
-add_lanes-others-requires c =
-    let small : sum_l c.rows.sums + sum_l c.rows.others ≤ 2 ^ 31 = rows_small (drop c.args.at c.args.bytes.now) c.rows.done (sum_l c.rows.sums) (sum_l c.rows.others) (omega (arith, c.rows.invariant.0, c.requires.short)) c.rows.invariant.2 in
-    omega (arith, small)
-
-pub rows-preserved : goal.rows-preserved
-rows-preserved c = (
-  omega (arith, c.rows.invariant.0, c.rows-test.true),
-  omega (arith, c.rows.invariant.1),
-  rows_added c.args.bytes.now c.block_lanes.result c.block_lanes-in-rows.result c.args.at c.rows.done (sum_l c.rows.sums) (sum_l c.rows.others) (sum_l c.add_lanes-sums.result) (sum_l c.add_lanes-others.result) c.rows.invariant.2 c.block_lanes.ensures c.add_lanes-sums.ensures c.block_lanes-in-rows.ensures c.add_lanes-others.ensures,
+pub pairs-preserved : goal.pairs-preserved
+pairs-preserved c = (
+  omega (arith, c.pairs.invariant.0, c.pairs-test.true),
+  omega (arith, c.pairs.invariant.1),
+  pair_added c.args.bytes.now c.args.at c.pairs.done (sum_l c.pairs.sums) (sum_l c.pair_lanes.result) (sum_l c.add_lanes-sums.result) c.pairs.invariant.2 c.pair_lanes.ensures c.add_lanes-sums.ensures,
 )
 
 pub add_lanes-sums-requires-in-lanes : goal.add_lanes-sums-requires-in-lanes
 add_lanes-sums-requires-in-lanes c =
-    let small : sum_l c.lanes.sums + sum_l c.rows.others ≤ 2 ^ 31 = rows_small (drop c.args.at c.args.bytes.now) c.lanes.done (sum_l c.lanes.sums) (sum_l c.rows.others) (omega (arith, c.lanes.invariant.0, c.requires.short)) c.lanes.invariant.2 in
-    omega (arith, small)
+    let small : sum_by loud (take c.lanes.done (drop c.args.at c.args.bytes.now)) ≤ 2 ^ 31 = taken_small (drop c.args.at c.args.bytes.now) c.lanes.done (omega (arith, c.lanes.invariant.0, c.requires.short)) in
+    omega (arith, c.lanes.invariant.2, small)
 
 pub lanes-preserved : goal.lanes-preserved
 lanes-preserved c = (
   omega (arith, c.lanes.invariant.0, c.lanes.invariant.1, c.requires.whole, c.lanes-test.true),
   omega (arith, c.lanes.invariant.1),
-  row_added c.args.bytes.now c.block_lanes-in-lanes.result c.args.at c.lanes.done (c.args.at + c.lanes.done) (sum_l c.lanes.sums) (sum_l c.rows.others) (sum_l c.add_lanes-sums-in-lanes.result) refl c.lanes.invariant.2 c.block_lanes-in-lanes.ensures c.add_lanes-sums-in-lanes.ensures,
+  block_added c.args.bytes.now c.block_lanes.result c.args.at c.lanes.done (sum_l c.lanes.sums) (sum_l c.add_lanes-sums-in-lanes.result) c.lanes.invariant.2 c.block_lanes.ensures c.add_lanes-sums-in-lanes.ensures,
 )
 
 pub reduced-requires : goal.reduced-requires
 reduced-requires c =
-    let small : sum_l c.lanes.sums + sum_l c.rows.others ≤ 2 ^ 31 = rows_small (drop c.args.at c.args.bytes.now) c.lanes.done (sum_l c.lanes.sums) (sum_l c.rows.others) (omega (arith, c.lanes.invariant.0, c.requires.short)) c.lanes.invariant.2 in
-    omega (arith, small)
-
-pub reduced-requires-2 : goal.reduced-requires-2
-reduced-requires-2 c =
-    let small : sum_l c.lanes.sums + sum_l c.rows.others ≤ 2 ^ 31 = rows_small (drop c.args.at c.args.bytes.now) c.lanes.done (sum_l c.lanes.sums) (sum_l c.rows.others) (omega (arith, c.lanes.invariant.0, c.requires.short)) c.lanes.invariant.2 in
-    omega (arith, small)
-
-pub overflow_add-result : goal.overflow_add-result
-overflow_add-result c =
-    let small : sum_l c.lanes.sums + sum_l c.rows.others ≤ 2 ^ 31 = rows_small (drop c.args.at c.args.bytes.now) c.lanes.done (sum_l c.lanes.sums) (sum_l c.rows.others) (omega (arith, c.lanes.invariant.0, c.requires.short)) c.lanes.invariant.2 in
-    record { fits = omega (arith, small, c.reduced.ensures, c.reduced-2.ensures) }
+    let small : sum_by loud (take c.lanes.done (drop c.args.at c.args.bytes.now)) ≤ 2 ^ 31 = taken_small (drop c.args.at c.args.bytes.now) c.lanes.done (omega (arith, c.lanes.invariant.0, c.requires.short)) in
+    omega (arith, c.lanes.invariant.2, small)
