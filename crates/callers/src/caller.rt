@@ -8,6 +8,7 @@ ghost use Rattle.voice_server.specs.Served.{tapes_of, IsPassOf};
 ghost use Rattle.callers.specs.Lines.{Followed, Stopped};
 
 use crate::lines::run_own_line;
+use crate::places::{Places, Visit};
 use script_lang::{Env, Script};
 use std::alloc::Global;
 use std::sync::Wait;
@@ -16,7 +17,7 @@ use voice_model::Tapes;
 use voice_outside::{Disk, Gate};
 use voice_server::{Server, Standing};
 
-/// Runs the lines of the pass's caller in order. False where memory ran out; then the lines before stand, and perhaps that line's own entry.
+/// Runs the lines of the pass's caller in order, each at a place. False where memory ran out; then the lines before stand, and perhaps that line's own entry.
 pub(crate) fn run_caller<R: Wait, D: Disk, G: Gate>(
     rt: &R,
     alloc: Global,
@@ -25,6 +26,7 @@ pub(crate) fn run_caller<R: Wait, D: Disk, G: Gate>(
     script: &Script,
     tapes: &Tapes,
     gate: &G,
+    places: &Places,
 ) -> bool
     requires pass { IsPassOf server.now pass.old }
     requires tapes { tapes_of server.now ≡ tapes.now }
@@ -37,10 +39,14 @@ pub(crate) fn run_caller<R: Wait, D: Disk, G: Gate>(
     ensures so_far { (k : ℕ) × Followed tapes.now script.now.lines k pass.old.caller (mine pass.old) (mine pass.new) }
 {
     let mut variables = Env::new(alloc);
+    let mut visit = Visit::new(places, pass.caller());
     for line in &script.lines {
+        visit.before(rt, line.caller);
         if run_own_line(rt, alloc, server, pass, tapes, line, &mut variables, gate).is_err() {
+            visit.end();
             return false;
         }
     }
+    visit.end();
     true
 }

@@ -3,6 +3,7 @@
 
 mod caller;
 mod lines;
+mod places;
 mod seats;
 mod threads;
 

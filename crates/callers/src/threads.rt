@@ -8,6 +8,7 @@ ghost use Rattle.voice_server.specs.Served.{tapes_of};
 ghost use Rattle.callers.specs.Seats.{IsReady, HasRun, EachRan, SomeStopped};
 
 use crate::caller::run_caller;
+use crate::places::Places;
 use crate::seats::{Outcome, Runner, hand_back, line_up};
 use script_lang::Script;
 use std::alloc::Global;
@@ -28,6 +29,7 @@ fn run_one<R: Wait, D: Disk, G: Gate>(
     script: &Script,
     tapes: &Tapes,
     gate: &G,
+    places: &Places,
 )
     requires pass { IsReady server.now runner.old }
     requires tapes { tapes_of server.now ≡ tapes.now }
@@ -35,7 +37,16 @@ fn run_one<R: Wait, D: Disk, G: Gate>(
     requires samples { length tapes.now ≡ length script.now.samples }
     ensures { HasRun tapes.now script.now.lines server.now runner.old runner.new }
 {
-    runner.done = run_caller(rt, alloc, server, &mut runner.pass, script, tapes, gate);
+    runner.done = run_caller(
+        rt,
+        alloc,
+        server,
+        &mut runner.pass,
+        script,
+        tapes,
+        gate,
+        places,
+    );
 }
 
 // All callers, each on a thread of its own where one can be made.
@@ -47,6 +58,7 @@ fn run_all<R: Threads + Wait + Sync, D: Disk, G: Gate>(
     script: &Script,
     tapes: &Tapes,
     gate: &G,
+    places: &Places,
 )
     requires count { 0 < length runners.old }
     requires ready { All (IsReady server.now) runners.old }
@@ -59,7 +71,7 @@ fn run_all<R: Threads + Wait + Sync, D: Disk, G: Gate>(
     let run = move |_: usize, runner: &mut Runner<Pass<Standing<D>>>|
         requires { IsReady server.now runner.now × (tapes_of server.now ≡ tapes.now) × IsWhole is_built_verb script.now × (length tapes.now ≡ length script.now.samples) }
         ensures { HasRun tapes.entry.now script.entry.now.lines server.entry.now runner.entry.now runner.exit.now }
-    { run_one(rt, alloc, server, runner, script, tapes, gate) };
+    { run_one(rt, alloc, server, runner, script, tapes, gate, places) };
     thread::for_each_mut(rt, runners, threads, &run);
 }
 
@@ -90,6 +102,8 @@ pub fn run_threads<R: Threads + Wait + Sync, D: Disk, G: Gate>(
         };
     };
     line_up(&mut passes, &mut runners);
+    // A gate may hold a caller back until another one comes to some line, so nobody may wait for a place meanwhile.
+    let places = Places::new(gate.is_open());
     run_all(
         rt,
         alloc,
@@ -98,6 +112,7 @@ pub fn run_threads<R: Threads + Wait + Sync, D: Disk, G: Gate>(
         script,
         tapes,
         gate,
+        &places,
     );
     let memory = hand_back(runners, &mut passes);
     Outcome { passes, memory }

@@ -101,6 +101,10 @@ impl Meeting {
 }
 
 impl Gate for Meeting {
+    fn is_open(&self) -> bool {
+        false
+    }
+
     fn before(&self, caller: u16, line: u32, turn: u32) {
         self.keep(100 + 1000 * ((turn % 10) as u16), caller, line);
         if line == 1 {

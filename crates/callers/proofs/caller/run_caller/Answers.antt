@@ -1,9 +1,15 @@
 use Rattle.std.proofs.Common.{◌≡◌, ◌<◌, ◌∙◌, length, get_or, ap, sym, refl, arith}
 use Rattle.std.proofs.lemmas.Option.{slice_get_read}
+use denote.Exit.{no}
+use denote.Param.Send.{param_send, arg_send}
 use Rattle.script_lang.specs.Shown.{Reading}
 use Rattle.turnstile.specs.Passes.{mine}
+use Rattle.voice_server.proofs.Moving.{standing_send}
 use Rattle.callers.proofs.Following.{at_start, moves_on, stops_at, stops_so_far, follows_at, at_done, at_error, whole_at}
 use Rattle.callers.proofs.caller.run_caller.Goals as goal
+
+pub caller-requires-send-T : goal.caller-requires-send-T
+caller-requires-send-T g c κs within = param_send 0 _ (arg_send _ no _ (standing_send _ g.D.Disk c.type_bounds.send-D))
 
 pub loop-line-init : goal.loop-line-init
 loop-line-init g c = record {

@@ -5,7 +5,8 @@ use Rattle.voice_model.proofs.tapes.Tapes.TheSendSync.{the_sync as tapes_sync}
 use Rattle.script_lang.proofs.scripts.Script.TheSendSync.{the_sync as script_sync}
 use Rattle.voice_server.specs.Kept.{IsKept, history_of, origin_of}
 use Rattle.voice_server.proofs.Moving.{pass_moves, hall_shared}
-use Rattle.callers.proofs.Sharing.{six_shared}
+use Rattle.callers.proofs.Sharing.{seven_shared}
+use Rattle.callers.proofs.places.Places.TheSendSync.{the_sync as places_sync}
 use Rattle.callers.proofs.seats.Runner.TheSendSync.{the_send as runner_send}
 use Rattle.callers.proofs.threads.run_all.Goals as goal
 
@@ -14,4 +15,4 @@ for_each_mut-requires-send-T g c κs within = param_send 1 _ (arg_send _ no _ (r
 
 pub for_each_mut-requires-sync-F : goal.for_each_mut-requires-sync-F
 for_each_mut-requires-sync-F g c κs within =
-    param_sync 2 _ (arg_sync _ no _ (six_shared _ _ _ _ _ _ _ (shr_sync _ _ _ c.type_bounds.sync-R) global_sync (shr_sync _ _ _ (hall_shared _ g.D.Disk _ c.type_bounds.send-D)) (shr_sync _ _ _ script_sync) (shr_sync _ _ _ tapes_sync) (shr_sync _ _ _ c.type_bounds.sync-G)))
+    param_sync 2 _ (arg_sync _ no _ (seven_shared _ _ _ _ _ _ _ _ (shr_sync _ _ _ c.type_bounds.sync-R) global_sync (shr_sync _ _ _ (hall_shared _ g.D.Disk _ c.type_bounds.send-D)) (shr_sync _ _ _ script_sync) (shr_sync _ _ _ tapes_sync) (shr_sync _ _ _ c.type_bounds.sync-G) (shr_sync _ _ _ places_sync)))
