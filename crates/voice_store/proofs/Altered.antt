@@ -77,8 +77,8 @@ module _ (s : Inside) (b : Rebuilt) (next : NextChange) (c : Change) (state : St
   -- the size that the tables tell in which the change is done is that of the base after it
   pub weighed_after : (after : Parts) (size : ℕ) → Runs w.held [] w.takings after (acted b c) → Tells size after → size ≡ base_size state.form (changed state.form state.kept effect)
   weighed_after after size shows told =
-      told w.held (acted b c).kept w.later_fill shows.kept w.brings_it.spots
-      ∙ ap (λ f. base_size f (durable_by w.later_fill (acted b c).kept)) (shows.in_form ∙ acted_form b c (given w.held w.takings s.parts b next c w.is_next).kind ∙ w.fills.form)
+      told w.held (acted b c).kept w.fill shows.kept w.brings_it.spots
+      ∙ ap (λ f. base_size f (durable_by w.fill (acted b c).kept)) (shows.in_form ∙ acted_form b c (given w.held w.takings s.parts b next c w.is_next).kind ∙ w.fills.form)
       ∙ ap (base_size state.form) w.brings_it.kept
 
 module _ (first : State) (t0 : ℕ) (disk : Told) (s : Inside) (call : Call) (ready : ReadyChange) (reply : Reply) (growth : Growth) (h : Alters first t0 disk s call ready reply growth) where
@@ -120,7 +120,6 @@ module _ (first : State) (t0 : ℕ) (disk : Told) (s : Inside) (call : Call) (re
     fills = h.stood.upright.fills;
     seated = h.stood.upright.seated;
     frame = keeps.frame;
-    later_fill = h.stood.fill;
     brings_it = record { spots = h.stood.upright.fills.spots; kept = keeps.does };
   }
 
@@ -157,7 +156,6 @@ module _ (first : State) (t0 : ℕ) (disk : Told) (s : Inside) (call : Call) (re
         replies = h.makes.replied;
         in_range = h.range;
         frame = keeps.frame;
-        later_fill = h.stood.fill;
         brings_it = record { spots = h.stood.upright.fills.spots; kept = keeps.does };
         does = λ told.
             let sound = (standing_gives laws disk).now first (tapes_of s) t0 s.journal b b s.history.items (honest told) (up.held told) in

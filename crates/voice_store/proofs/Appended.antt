@@ -113,8 +113,8 @@ module _ (first : State) (t0 : ℕ) (old new : Told) (s s' : Inside) (b : Rebuil
       does = tr.does h;
     }
 
-    fills_then : Fills tr.later_fill (acted b c) then
-    fills_then = subst (λ (t : State). Fills tr.later_fill (acted b c) t) (sym is_then)
+    fills_then : Fills tr.fill (acted b c) then
+    fills_then = subst (λ (t : State). Fills tr.fill (acted b c) t) (sym is_then)
         (record { spots = tr.brings_it.spots; kept = tr.brings_it.kept; form = acted_form b c gives.kind ∙ tr.upright.fills.form })
 
     seated_then : IsSeated (record s.journal { seat = landed_seat s.journal.seat (Record (length payload)) }) then

@@ -7,6 +7,7 @@ use Rattle.voice_units.specs.declared.pieces.Take.{Take}
 use Rattle.voice_units.specs.declared.pieces.Piece.{Piece}
 use Rattle.voice_outside.specs.Disk.{Told}
 use Rattle.voice_journal.specs.Places.{JournalValue}
+use Rattle.voice_units.specs.Spots.{Spot}
 use Rattle.voice_model.specs.Samples.{Tagged}
 use Rattle.voice_model.specs.State.{State, Effect, Pending}
 use Rattle.voice_model.specs.State.Effect.{Edited}
@@ -139,8 +140,8 @@ pub landed_still : (first : State) (t0 : ℕ) (disk : Told) (s : Inside) → Sto
 landed_still first t0 disk s stood none = landed_none (last_of first s) (is_sure first t0 disk s stood none).in_state
 
 -- what is in doubt takes two
-pub landing_two : (held : List (List Piece)) (takings : List ℕ) (s : Inside) (b after : Rebuilt) (now : State) → IsUnsure held takings s b after now → 2 ≡ landing_calls now
-landing_two held takings s b after now unsure = sym (ap (λ (o : Option Pending). cond (is_some o) 2 0) unsure.in_state)
+pub landing_two : (fill : Spot → Tagged) (held : List (List Piece)) (takings : List ℕ) (s : Inside) (b after : Rebuilt) (now : State) → IsUnsure fill held takings s b after now → 2 ≡ landing_calls now
+landing_two fill held takings s b after now unsure = sym (ap (λ (o : Option Pending). cond (is_some o) 2 0) unsure.in_state)
 
 -- the state behind a landing
 pub last_landed : (first : State) (s s' : Inside) (ack : ℕ) → s'.tapes ≡ s.tapes → s'.history.items ≡ s.history.items ++ landing_at ack ∷ [] → last_of first s' ≡ landed (last_of first s)

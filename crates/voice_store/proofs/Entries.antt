@@ -100,8 +100,8 @@ module _ (first : State) (t0 : ℕ) (disk : Told) (s : Inside) (history : Vec En
         size = stood.size;
       }
     where
-      tables_noted : IsSure stood.held stood.takings s stood.b stood.after (last_of first s) ⊎ IsUnsure stood.held stood.takings s stood.b stood.after (last_of first s) → last_of first entered ≡ last_of first s
-          → IsSure stood.held stood.takings entered stood.b stood.after (last_of first entered) ⊎ IsUnsure stood.held stood.takings entered stood.b stood.after (last_of first entered)
+      tables_noted : IsSure stood.held stood.takings s stood.b stood.after (last_of first s) ⊎ IsUnsure stood.fill stood.held stood.takings s stood.b stood.after (last_of first s) → last_of first entered ≡ last_of first s
+          → IsSure stood.held stood.takings entered stood.b stood.after (last_of first entered) ⊎ IsUnsure stood.fill stood.held stood.takings entered stood.b stood.after (last_of first entered)
       tables_noted (inl sure) last = inl (record { sure = sure.sure; in_journal = sure.in_journal; in_state = ap (λ (t : State). t.doubt) last ∙ sure.in_state; tables = sure.tables; same = sure.same })
       tables_noted (inr unsure) last = inr (record {
         doubted = unsure.doubted;
@@ -114,7 +114,6 @@ module _ (first : State) (t0 : ℕ) (disk : Told) (s : Inside) (history : Vec En
         ready = unsure.ready;
         addresses = unsure.addresses;
         spelled = unsure.spelled;
-        later_fill = unsure.later_fill;
-        brings_it = subst (λ (t : State). Brings unsure.later_fill stood.b unsure.change t unsure.pending.effect) (sym last) unsure.brings_it;
-        lands = subst (λ (t : State). Lands stood.held stood.takings s.journal unsure.doubted stood.b stood.after t unsure.change unsure.doubt) (sym last) unsure.lands;
+        brings_it = subst (λ (t : State). Brings stood.fill stood.b unsure.change t unsure.pending.effect) (sym last) unsure.brings_it;
+        lands = subst (λ (t : State). Lands stood.fill stood.held stood.takings s.journal unsure.doubted stood.b stood.after t unsure.change unsure.doubt) (sym last) unsure.lands;
       })

@@ -54,7 +54,7 @@ module _ (first : State) (t0 : ℕ) (disk : Told) (s : Inside) (b : Rebuilt) (ne
 
   sized : (form : ℕ) → changes.framed_size (base_of form r) ≡ base_size form (changed last.form last.kept effect)
   sized form =
-      base_sized h.later_fill h.brings_it.spots form r (placed_next b c gives.runs.placed gives.legal gives.grammar) (subst (λ x. AllUsed (acted b x)) (sym h.change) (used_acted b b.form h.addresses effect))
+      base_sized h.fill h.brings_it.spots form r (placed_next b c gives.runs.placed gives.legal gives.grammar) (subst (λ x. AllUsed (acted b x)) (sym h.change) (used_acted b b.form h.addresses effect))
       ∙ ap (base_size form) h.brings_it.kept
 
   same_form : r.form ≡ last.form

@@ -114,7 +114,7 @@ module _ (first : State) (t0 : ℕ) (disk : Told) (s : Inside) (stood : Stood fi
   abbrev b : Rebuilt
   b = stood.b
 
-  placing_by : IsSure stood.held stood.takings s b stood.after last ⊎ IsUnsure stood.held stood.takings s b stood.after last → Placing s b
+  placing_by : IsSure stood.held stood.takings s b stood.after last ⊎ IsUnsure stood.fill stood.held stood.takings s b stood.after last → Placing s b
   placing_by (inl sure) = record { size = sure.tables.size; addresses = sure.tables.addresses; placed = sure.tables.placed }
   placing_by (inr unsure) =
       let runs = (given stood.held stood.takings s.parts b unsure.doubted.next unsure.change unsure.ready).runs in

@@ -70,7 +70,7 @@ module _ (first : State) (t0 : ℕ) (disk : Told) (s : Inside) (stood : Stood fi
   pub is_sure : IsSure stood.held stood.takings s stood.b stood.after (last_of first s)
   is_sure = by stood.tables
     where
-      by : IsSure stood.held stood.takings s stood.b stood.after (last_of first s) ⊎ IsUnsure stood.held stood.takings s stood.b stood.after (last_of first s) → IsSure stood.held stood.takings s stood.b stood.after (last_of first s)
+      by : IsSure stood.held stood.takings s stood.b stood.after (last_of first s) ⊎ IsUnsure stood.fill stood.held stood.takings s stood.b stood.after (last_of first s) → IsSure stood.held stood.takings s stood.b stood.after (last_of first s)
       by (inl sure) = sure
       by (inr unsure) = absurd (some_none unsure.doubted (sym unsure.unsure ∙ none))
 
@@ -246,7 +246,6 @@ module _ (first : State) (t0 : ℕ) (disk : Told) (s : Inside) (call : Call) (pi
         replies = reply_is next ready.number ready.pieces ∙ sym is;
         in_range = making.range;
         frame = ap (λ n. 5 + n) (sym (ap length ready.payload ∙ ap (λ x. length (spelling x)) the_change ∙ size_again b.form now.kept.shape.block [] made tt));
-        later_fill = h.makes.stood.fill;
         brings_it = record { spots = up.fills.spots; kept = brings_kept };
         does = λ told.
             let sound = (standing_gives laws disk).now first (tapes_of s) t0 s.journal b b s.history.items (honest told) (up.held told) in

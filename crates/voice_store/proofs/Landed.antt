@@ -38,7 +38,7 @@ still_in_doubt first t0 disk s s' stood some tapes items = ap (λ (t : State). i
     same : last_of first s' ≡ last_of first s
     same = ap (λ t. after first (tapes_of (record s { tapes = t })) s'.history.items) tapes ∙ ap (λ l. after first (tapes_of s) l) items
 
-    by : IsSure stood.held stood.takings s stood.b stood.after (last_of first s) ⊎ IsUnsure stood.held stood.takings s stood.b stood.after (last_of first s) → is_some (last_of first s).doubt ≡ true
+    by : IsSure stood.held stood.takings s stood.b stood.after (last_of first s) ⊎ IsUnsure stood.fill stood.held stood.takings s stood.b stood.after (last_of first s) → is_some (last_of first s).doubt ≡ true
     by (inl sure) = absurd (some sure.sure)
     by (inr unsure) = ap is_some unsure.in_state
 
@@ -84,7 +84,7 @@ module _ (first : State) (t0 : ℕ) (disk : Told) (s : Inside) (history : Vec En
     size = stood.size;
   }
     where
-      by : IsSure stood.held stood.takings s stood.b stood.after (last_of first s) ⊎ IsUnsure stood.held stood.takings s stood.b stood.after (last_of first s) → IsSure stood.held stood.takings roomy stood.b stood.after (last_of first roomy) ⊎ IsUnsure stood.held stood.takings roomy stood.b stood.after (last_of first roomy)
+      by : IsSure stood.held stood.takings s stood.b stood.after (last_of first s) ⊎ IsUnsure stood.fill stood.held stood.takings s stood.b stood.after (last_of first s) → IsSure stood.held stood.takings roomy stood.b stood.after (last_of first roomy) ⊎ IsUnsure stood.fill stood.held stood.takings roomy stood.b stood.after (last_of first roomy)
       by (inl sure) = inl (record { sure = sure.sure; in_journal = sure.in_journal; in_state = ap (λ (t : State). t.doubt) last ∙ sure.in_state; tables = sure.tables; same = sure.same })
       by (inr unsure) = inr (record {
         doubted = unsure.doubted;
@@ -97,9 +97,8 @@ module _ (first : State) (t0 : ℕ) (disk : Told) (s : Inside) (history : Vec En
         ready = unsure.ready;
         addresses = unsure.addresses;
         spelled = unsure.spelled;
-        later_fill = unsure.later_fill;
-        brings_it = subst (λ (t : State). Brings unsure.later_fill stood.b unsure.change t unsure.pending.effect) (sym last) unsure.brings_it;
-        lands = subst (λ (t : State). Lands stood.held stood.takings s.journal unsure.doubted stood.b stood.after t unsure.change unsure.doubt) (sym last) unsure.lands;
+        brings_it = subst (λ (t : State). Brings stood.fill stood.b unsure.change t unsure.pending.effect) (sym last) unsure.brings_it;
+        lands = subst (λ (t : State). Lands stood.fill stood.held stood.takings s.journal unsure.doubted stood.b stood.after t unsure.change unsure.doubt) (sym last) unsure.lands;
       })
 
 pub stood_reserved : (first : State) (t0 : ℕ) (disk : Told) (s s' : Inside) → s' ≡ record s { history = s'.history } → s'.history.items ≡ s.history.items → Stood first t0 disk s → Stood first t0 disk s'

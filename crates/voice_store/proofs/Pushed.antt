@@ -39,13 +39,13 @@ module _ (first : State) (t0 : ℕ) (old new : Told) (s s' : Inside) (e : Entry)
   here : (P : List (List ℕ) → List Entry → Type 0) → P (tapes_of s) (s.history.items ++ e ∷ []) → P (tapes_of s') s'.history.items
   here P p = subst (λ (ts : List (List ℕ)). P ts s'.history.items) (sym same_tapes) (subst (λ (l : List Entry). P (tapes_of s) l) (sym items) p)
 
-  pub stood_pushed : (fill fill' : Spot → Tagged) (b b' after' after'' : Rebuilt) (held : List (List Piece)) (takings : List ℕ) → Upright first t0 old s fill b after' → old.calls ≤ new.calls → new.honest ≡ old.honest → e.ack ≡ new.calls
-      → IsAnswerOn new.honest last (tapes_of s) e → IsState next → IsHolding held takings s'.journal.shape.block next.lanes → Fills fill' b' next → IsSeated s'.journal next
+  pub stood_pushed : (fill : Spot → Tagged) (b b' after' after'' : Rebuilt) (held : List (List Piece)) (takings : List ℕ) → Upright first t0 old s fill b after' → old.calls ≤ new.calls → new.honest ≡ old.honest → e.ack ≡ new.calls
+      → IsAnswerOn new.honest last (tapes_of s) e → IsState next → IsHolding held takings s'.journal.shape.block next.lanes → Fills fill b' next → IsSeated s'.journal next
       → (IsTrue new.honest → IsHeld first (tapes_of s) t0 s'.journal new b' after'' (s.history.items ++ e ∷ []))
-      → IsSure held takings s' b' after'' next ⊎ IsUnsure held takings s' b' after'' next → extent s'.journal.shape ≤ new.size
+      → IsSure held takings s' b' after'' next ⊎ IsUnsure fill held takings s' b' after'' next → extent s'.journal.shape ≤ new.size
       → Stood first t0 new s'
-  stood_pushed fill fill' b b' after' after'' held takings up later alike now answers valid holding fills seated stands tables size = record {
-    fill = fill';
+  stood_pushed fill b b' after' after'' held takings up later alike now answers valid holding fills seated stands tables size = record {
+    fill = fill;
     b = b';
     after = after'';
     held = held;
@@ -54,12 +54,12 @@ module _ (first : State) (t0 : ℕ) (old new : Told) (s s' : Inside) (e : Entry)
     upright = record {
       legal = here (λ ts l. LegalOn new.honest first ts l) (legal_one new.honest first (tapes_of s) s.history.items e (as_honest first old new s alike up.legal) answers);
       valid = subst (λ (t : State). IsState t) (sym last_next) valid;
-      fills = subst (λ (t : State). Fills fill' b' t) (sym last_next) fills;
+      fills = subst (λ (t : State). Fills fill b' t) (sym last_next) fills;
       seated = subst (λ (t : State). IsSeated s'.journal t) (sym last_next) seated;
       acks = here (λ ts l. AcksRise t0 l new.calls) (acks_one t0 s.history.items e new.calls (acks_later t0 s.history.items old.calls new.calls up.acks later) now);
       held = λ honest. here (λ ts l. IsHeld first ts t0 s'.journal new b' after'' l) (stands honest);
     };
-    tables = subst (λ (t : State). IsSure held takings s' b' after'' t ⊎ IsUnsure held takings s' b' after'' t) (sym last_next) tables;
+    tables = subst (λ (t : State). IsSure held takings s' b' after'' t ⊎ IsUnsure fill held takings s' b' after'' t) (sym last_next) tables;
     size = size;
   }
 

@@ -162,7 +162,7 @@ pub shows_state : (held : List (List Piece)) (fill : Spot → Tagged) (b : Rebui
 shows_state held fill b s parts fills shows = subst (λ d. Shows held parts d) (sym (kept_again fill fills.spots b.kept) ∙ ap (durable_by spot_of) fills.kept) shows
 
 module _ (first : State) (t0 : ℕ) (disk : Told) (s : Inside) (stood : Stood first t0 disk s) where
-  shown : IsSure stood.held stood.takings s stood.b stood.after (last_of first s) ⊎ IsUnsure stood.held stood.takings s stood.b stood.after (last_of first s) → Shows stood.held s.parts stood.b.kept
+  shown : IsSure stood.held stood.takings s stood.b stood.after (last_of first s) ⊎ IsUnsure stood.fill stood.held stood.takings s stood.b stood.after (last_of first s) → Shows stood.held s.parts stood.b.kept
   shown (inl sure) = sure.tables.kept
   shown (inr unsure) = (given stood.held stood.takings s.parts stood.b unsure.doubted.next unsure.change unsure.ready).runs.kept
 

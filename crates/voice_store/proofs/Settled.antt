@@ -7,6 +7,7 @@ use Rattle.voice_units.specs.declared.shapes.Shape.{Shape}
 use Rattle.voice_journal.specs.Places.{JournalValue, closed_after, landed as landed_seat}
 use Rattle.voice_journal.specs.Readings.{extent}
 use Rattle.voice_journal.specs.declared.seats.Doubt.{Doubt}
+use Rattle.voice_units.specs.Spots.{Spot}
 use Rattle.voice_model.specs.Samples.{Tagged}
 use Rattle.voice_model.specs.State.{State, Durable, LaneState, Pending}
 use Rattle.voice_model.specs.Step.{landed, after_landing, state_after}
@@ -42,17 +43,17 @@ true_false : true ≡ false → ⊥
 true_false e = cc
 
 -- only where a change is in doubt is one ready
-pub unsure_of : (held : List (List Piece)) (takings : List ℕ) (s : Inside) (b after' : Rebuilt) (last : State) (doubted : Doubted) → s.doubt ≡ Some doubted → IsSure held takings s b after' last ⊎ IsUnsure held takings s b after' last → IsUnsure held takings s b after' last
-unsure_of held takings s b after' last doubted is (inl sure) = absurd (none_some doubted (sym sure.sure ∙ is))
-unsure_of held takings s b after' last doubted is (inr unsure) = unsure
+pub unsure_of : (fill : Spot → Tagged) (held : List (List Piece)) (takings : List ℕ) (s : Inside) (b after' : Rebuilt) (last : State) (doubted : Doubted) → s.doubt ≡ Some doubted → IsSure held takings s b after' last ⊎ IsUnsure fill held takings s b after' last → IsUnsure fill held takings s b after' last
+unsure_of fill held takings s b after' last doubted is (inl sure) = absurd (none_some doubted (sym sure.sure ∙ is))
+unsure_of fill held takings s b after' last doubted is (inr unsure) = unsure
 
-pub sure_of : (held : List (List Piece)) (takings : List ℕ) (s : Inside) (b after' : Rebuilt) (last : State) → s.doubt ≡ None → IsSure held takings s b after' last ⊎ IsUnsure held takings s b after' last → IsSure held takings s b after' last
-sure_of held takings s b after' last is (inl sure) = sure
-sure_of held takings s b after' last is (inr unsure) = absurd (none_some unsure.doubted (sym is ∙ unsure.unsure))
+pub sure_of : (fill : Spot → Tagged) (held : List (List Piece)) (takings : List ℕ) (s : Inside) (b after' : Rebuilt) (last : State) → s.doubt ≡ None → IsSure held takings s b after' last ⊎ IsUnsure fill held takings s b after' last → IsSure held takings s b after' last
+sure_of fill held takings s b after' last is (inl sure) = sure
+sure_of fill held takings s b after' last is (inr unsure) = absurd (none_some unsure.doubted (sym is ∙ unsure.unsure))
 
-pub unsure_by : (held : List (List Piece)) (takings : List ℕ) (s : Inside) (b after' : Rebuilt) (last : State) → is_none s.doubt ≡ false → IsSure held takings s b after' last ⊎ IsUnsure held takings s b after' last → IsUnsure held takings s b after' last
-unsure_by held takings s b after' last is (inl sure) = absurd (true_false (sym (ap (λ (o : Option Doubted). is_none o) sure.sure) ∙ is))
-unsure_by held takings s b after' last is (inr unsure) = unsure
+pub unsure_by : (fill : Spot → Tagged) (held : List (List Piece)) (takings : List ℕ) (s : Inside) (b after' : Rebuilt) (last : State) → is_none s.doubt ≡ false → IsSure held takings s b after' last ⊎ IsUnsure fill held takings s b after' last → IsUnsure fill held takings s b after' last
+unsure_by fill held takings s b after' last is (inl sure) = absurd (true_false (sym (ap (λ (o : Option Doubted). is_none o) sure.sure) ∙ is))
+unsure_by fill held takings s b after' last is (inr unsure) = unsure
 
 pub same_doubted : (s : Inside) (x y : Doubted) → s.doubt ≡ Some x → s.doubt ≡ Some y → x ≡ y
 same_doubted s x y p q = let both : Some x ≡ Some y = sym p ∙ q in cc
@@ -64,7 +65,7 @@ is_true = search rules
 abbrev pub landed_journal : JournalValue → Doubt → JournalValue
 landed_journal journal doubt = record journal { seat = landed_seat journal.seat doubt; doubt = None; is_closed = closed_after journal.is_closed doubt }
 
-module _ (first : State) (t0 : ℕ) (old new : Told) (s s' : Inside) (was : Stood first t0 old s) (unsure : IsUnsure was.held was.takings s was.b was.after (last_of first s))
+module _ (first : State) (t0 : ℕ) (old new : Told) (s s' : Inside) (was : Stood first t0 old s) (unsure : IsUnsure was.fill was.held was.takings s was.b was.after (last_of first s))
     (later : old.calls ≤ new.calls) (sizes : new.size ≡ old.size) (alike : new.honest ≡ old.honest) (moments : IsTrue old.honest → IsLater old new) (carry : LandingsCarry old new) where
   abbrev last : State
   last = last_of first s
@@ -85,7 +86,7 @@ module _ (first : State) (t0 : ℕ) (old new : Told) (s s' : Inside) (was : Stoo
       let none : (landed last).doubt ≡ None = landed_doubt last last.doubt in
       let seated : IsSeated s'.journal (landed last) =
       subst (λ (j : JournalValue). IsSeated j (landed last)) (sym journal) (record { shape = lands.seated.shape; left = lands.seated.left; epoch = lands.seated.epoch }) in
-      stood_pushed first t0 old new s s' e tapes items was.fill lands.fill was.b was.after was.after was.after was.held was.takings was.upright later alike refl
+      stood_pushed first t0 old new s s' e tapes items was.fill was.b was.after was.after was.after was.held was.takings was.upright later alike refl
       (answer_on new.honest last (tapes_of s) e (refl, refl, subst (λ (o : Option Pending). IsTrue (is_some o)) (sym unsure.in_state) is_true))
       lands.valid
       (subst (λ (l : List LaneState). stood.IsHolding was.held was.takings s'.journal.shape.block l) (sym (landed_lanes last last.doubt))
@@ -110,7 +111,7 @@ module _ (first : State) (t0 : ℕ) (old new : Told) (s s' : Inside) (was : Stoo
 pub shape_of : (first : State) (t0 : ℕ) (disk : Told) (s : Inside) (was : Stood first t0 disk s) → was.b.shape ≡ s.journal.shape
 shape_of first t0 disk s was = ap (λ (d : Durable Tagged). d.shape) was.upright.fills.kept ∙ was.upright.seated.shape
 
-pub ready_in : (first : State) (t0 : ℕ) (disk : Told) (s : Inside) (was : Stood first t0 disk s) (unsure : IsUnsure was.held was.takings s was.b was.after (last_of first s)) (doubted : Doubted) (s' : Inside)
+pub ready_in : (first : State) (t0 : ℕ) (disk : Told) (s : Inside) (was : Stood first t0 disk s) (unsure : IsUnsure was.fill was.held was.takings s was.b was.after (last_of first s)) (doubted : Doubted) (s' : Inside)
     → unsure.doubted ≡ doubted → s'.parts ≡ s.parts → s'.journal.shape ≡ s.journal.shape → IsReadyIn s' doubted.next
 ready_in first t0 disk s was unsure doubted s' same parts shape = record {
   held = was.held;

@@ -127,26 +127,26 @@ module _ (first : State) (t0 : ℕ) (disk : Told) (s : Inside) (stood : Stood fi
   none_pledged none runs = free_by (runs_state [] (λ block pair. ap (λ (ts : List Tagged). has_pair (pairs_in block (pieces_of (map spot_of ts) ∷ [])) pair) none) runs)
 
   -- a rope holds its blocks
-  with_rope_ready : (unsure : IsUnsure stood.held stood.takings s stood.b stood.after last) (rope : NextRope) → IsReady stood.held stood.takings s.parts stood.b rope unsure.change → free last ≡ open_in holders
+  with_rope_ready : (unsure : IsUnsure stood.fill stood.held stood.takings s stood.b stood.after last) (rope : NextRope) → IsReady stood.held stood.takings s.parts stood.b rope unsure.change → free last ≡ open_in holders
   with_rope_ready unsure rope ready =
       let effect = unsure.pending.effect in
       let b = stood.b in
       let kind : brings_rope (change_of b.form unsure.addresses effect) ≡ true = ap brings_rope (sym unsure.spelled ∙ ready.change) ∙ next_is_rope b.form rope in
       let after = (brings_ready stood.held stood.takings s.parts b rope unsure.change ready).after in
       let samples : new_samples unsure.change ≡ map spot_of (samples_brought effect) =
-      brought_alike unsure.later_fill unsure.brings_it.spots b.kept last.form b.form unsure.addresses last.kept rope.id (new_samples unsure.change) effect kind
-      (ap (durable_by unsure.later_fill) (sym after) ∙ unsure.brings_it.kept) in
+      brought_alike stood.fill unsure.brings_it.spots b.kept last.form b.form unsure.addresses last.kept rope.id (new_samples unsure.change) effect kind
+      (ap (durable_by stood.fill) (sym after) ∙ unsure.brings_it.kept) in
       let same : map spot_of (held_by_doubt last.doubt) ≡ new_samples unsure.change = ap (λ o. map spot_of (held_by_doubt o)) unsure.in_state ∙ sym samples in
       free_by (runs_state (rope.pieces ∷ []) (λ block pair. ap (λ (l : List Piece). has_pair (pairs_in block (l ∷ [])) pair) (ap pieces_of same ∙ sym ready.pieces)) ready.runs)
 
   -- any other change holds none
-  with_other_ready : (unsure : IsUnsure stood.held stood.takings s stood.b stood.after last) (other : ReadyChange) → IsOther stood.held stood.takings s.parts stood.b other unsure.change → free last ≡ open_in holders
+  with_other_ready : (unsure : IsUnsure stood.fill stood.held stood.takings s stood.b stood.after last) (other : ReadyChange) → IsOther stood.held stood.takings s.parts stood.b other unsure.change → free last ≡ open_in holders
   with_other_ready unsure other ready =
       let b = stood.b in
       let none : brings_rope (change_of b.form unsure.addresses unsure.pending.effect) ≡ false = ap brings_rope (sym unsure.spelled) ∙ (plain s.parts.interests.spare b.kept other.act unsure.change ready.ready.does).no_rope in
       none_pledged (ap held_by_doubt unsure.in_state ∙ brings_none b.form unsure.addresses unsure.pending.effect none) ready.runs
 
-  when_unsure : IsUnsure stood.held stood.takings s stood.b stood.after last → free last ≡ open_in holders
+  when_unsure : IsUnsure stood.fill stood.held stood.takings s stood.b stood.after last → free last ≡ open_in holders
   when_unsure unsure = by unsure.doubted.next unsure.ready
     where
       by : (next : NextChange) → IsNext stood.held stood.takings s.parts stood.b next unsure.change → free last ≡ open_in holders
@@ -156,7 +156,7 @@ module _ (first : State) (t0 : ℕ) (disk : Told) (s : Inside) (stood : Stood fi
   pub free_is_open : free last ≡ open_in holders
   free_is_open = by stood.tables
     where
-      by : IsSure stood.held stood.takings s stood.b stood.after last ⊎ IsUnsure stood.held stood.takings s stood.b stood.after last → free last ≡ open_in holders
+      by : IsSure stood.held stood.takings s stood.b stood.after last ⊎ IsUnsure stood.fill stood.held stood.takings s stood.b stood.after last → free last ≡ open_in holders
       by (inl sure) = none_pledged (ap held_by_doubt sure.in_state) sure.tables
       by (inr unsure) = when_unsure unsure
 
@@ -165,7 +165,7 @@ module _ (first : State) (t0 : ℕ) (disk : Told) (s : Inside) (stood : Stood fi
   pub shows_state : last.doubt ≡ None → ShowsState s.parts last
   shows_state none = by stood.tables
     where
-      by : IsSure stood.held stood.takings s stood.b stood.after last ⊎ IsUnsure stood.held stood.takings s stood.b stood.after last → ShowsState s.parts last
+      by : IsSure stood.held stood.takings s stood.b stood.after last ⊎ IsUnsure stood.fill stood.held stood.takings s stood.b stood.after last → ShowsState s.parts last
       by (inl sure) = record { held = stood.held; takings = stood.takings; holding = holding_now; rebuilt = stood.b; tables = sure.tables; fill = stood.fill; fills = stood.upright.fills }
       by (inr unsure) = absurd (none_some unsure.pending (sym none ∙ unsure.in_state))
 
@@ -173,6 +173,6 @@ module _ (first : State) (t0 : ℕ) (disk : Told) (s : Inside) (stood : Stood fi
   pub nothing_waits : last.doubt ≡ None → s.doubt ≡ None
   nothing_waits none = by stood.tables
     where
-      by : IsSure stood.held stood.takings s stood.b stood.after last ⊎ IsUnsure stood.held stood.takings s stood.b stood.after last → s.doubt ≡ None
+      by : IsSure stood.held stood.takings s stood.b stood.after last ⊎ IsUnsure stood.fill stood.held stood.takings s stood.b stood.after last → s.doubt ≡ None
       by (inl sure) = sure.sure
       by (inr unsure) = absurd (none_some unsure.pending (sym none ∙ unsure.in_state))

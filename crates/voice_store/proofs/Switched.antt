@@ -124,14 +124,14 @@ module _ (first : State) (t0 : ℕ) (old new : Told) (s s' : Inside) (b : Rebuil
   is_then : then ≡ committed_by false last effect
   is_then = fits_other last effect fits.behind
 
-  later_kept : durable_by tr.later_fill x.kept ≡ changed last.form last.kept effect
+  later_kept : durable_by tr.fill x.kept ≡ changed last.form last.kept effect
   later_kept = tr.brings_it.kept
 
   x_form : x.form ≡ last.form
   x_form = acted_form b c gives.kind ∙ tr.upright.fills.form
 
   size_of_base : (form : ℕ) → changes.framed_size (base_of form x) ≡ base_size form (changed last.form last.kept effect)
-  size_of_base form = base_sized tr.later_fill tr.brings_it.spots form x is_base.placed is_base.used ∙ ap (λ (d : Durable Tagged). base_size form d) later_kept
+  size_of_base form = base_sized tr.fill tr.brings_it.spots form x is_base.placed is_base.used ∙ ap (λ (d : Durable Tagged). base_size form d) later_kept
 
   -- the form that the base has is the one that the definitions give
   to_form : base.form ≡ form_after_switch last.form (changed last.form last.kept effect)
@@ -147,10 +147,10 @@ module _ (first : State) (t0 : ℕ) (old new : Told) (s s' : Inside) (b : Rebuil
   size_is : framed_size base.payloads ≡ base_size base.form (changed last.form last.kept effect)
   size_is = is_base.size ∙ size_of_base base.form
 
-  fills_then : Fills tr.later_fill end then
-  fills_then = subst (λ (t : State). Fills tr.later_fill end t) (sym is_then) (record {
+  fills_then : Fills tr.fill end then
+  fills_then = subst (λ (t : State). Fills tr.fill end t) (sym is_then) (record {
     spots = tr.brings_it.spots;
-    kept = ap (λ (d : Durable Spot). durable_by tr.later_fill d) (reached).2 ∙ later_kept;
+    kept = ap (λ (d : Durable Spot). durable_by tr.fill d) (reached).2 ∙ later_kept;
     form = (reached).3 ∙ to_form;
   })
 

@@ -85,7 +85,8 @@ module _ (fill : Spot → Tagged) (same : (x : Spot) → spot_of (fill x) ≡ x)
   filled_again : effect_by later (effect_by spot_of (Recorded id (recording id bytes))) ≡ Recorded id (recording id bytes)
   filled_again = ap (Recorded id) (recorded_again 0 bytes (λ k less. ap (slice_index bytes) (omega arith)))
 
-  kept_before : (b : Rebuilt) → IsPlaced b → b.next ≤ id → durable_by later b.kept ≡ durable_by fill b.kept
+  -- what was rebuilt before is filled in as it was
+  pub kept_before : (b : Rebuilt) → IsPlaced b → b.next ≤ id → durable_by later b.kept ≡ durable_by fill b.kept
   kept_before b placed new =
       same_filling later fill b.kept
       (each_imply (IsPlace b.shape.block b.places) (λ s. later s ≡ fill s) (λ s place. let less = place_below b placed s place in as_before s (omega (arith, less, new))) b.ropes placed.placed)

@@ -71,16 +71,16 @@ module _ (first : State) (t0 : ℕ) (old new : Told) (s s' : Inside) (b : Rebuil
 
   pub stood_done : (after' : Rebuilt) (doubt : Doubt) → (tapes : s'.tapes ≡ s.tapes) → s'.history.items ≡ s.history.items ++ said reply ∷ []
       → s'.journal.shape ≡ s.journal.shape → s'.journal.seat ≡ landed_seat s.journal.seat doubt → s'.journal.doubt ≡ None → s'.doubt ≡ None
-      → Runs tr.held [] tr.takings s'.parts after' → Fills tr.later_fill after' (committed last last.form effect)
+      → Runs tr.held [] tr.takings s'.parts after' → Fills tr.fill after' (committed last last.form effect)
       → IsSeated (record s.journal { seat = landed_seat s.journal.seat doubt }) (committed last last.form effect)
       → (IsTrue new.honest → IsHeld first (tapes_of s) t0 s'.journal new after' after' (s.history.items ++ said reply ∷ []))
       → Stood first t0 new s'
   stood_done after' doubt tapes items shape seat sure none tables fills seated held =
       let to : (P : State → Type 0) → P (committed last last.form effect) → P (state_after last (tapes_of s) (said reply)) = λ P p. subst P (sym next_done) p in
-      stood_pushed first t0 old new s s' (said reply) tapes items tr.fill tr.later_fill b after' b after' tr.held tr.takings tr.upright later alike refl (answer_on new.honest last (tapes_of s) (said reply) answers_done)
+      stood_pushed first t0 old new s s' (said reply) tapes items tr.fill b after' b after' tr.held tr.takings tr.upright later alike refl (answer_on new.honest last (tapes_of s) (said reply) answers_done)
       (state_kept last (tapes_of s) (said reply) tr.upright.valid tr.in_range answers_done)
       (to (λ t. IsHolding tr.held tr.takings s'.journal.shape.block t.lanes) (still_holding shape))
-      (to (λ t. Fills tr.later_fill after' t) fills)
+      (to (λ t. Fills tr.fill after' t) fills)
       (to (λ t. IsSeated s'.journal t) (seated_as (record s.journal { seat = landed_seat s.journal.seat doubt }) s'.journal (committed last last.form effect) shape seat seated))
       held
       (inl (record { sure = none; in_journal = sure; in_state = to (λ t. t.doubt ≡ None) tr.may.sure; tables = tables; same = refl }))
@@ -101,7 +101,7 @@ module _ (first : State) (t0 : ℕ) (old new : Told) (s s' : Inside) (b : Rebuil
   stood_failed tapes items shape seat sure none tables held =
       let e = said (replies.No why.DiskFault) in
       let to : (P : State → Type 0) → P last → P (state_after last (tapes_of s) e) = λ P p. subst P (sym next_failed) p in
-      stood_pushed first t0 old new s s' e tapes items tr.fill tr.fill b b b b tr.held tr.takings tr.upright later alike refl (answer_on new.honest last (tapes_of s) e tr.may.faults.answers)
+      stood_pushed first t0 old new s s' e tapes items tr.fill b b b b tr.held tr.takings tr.upright later alike refl (answer_on new.honest last (tapes_of s) e tr.may.faults.answers)
       (to (λ t. IsState t) tr.upright.valid)
       (to (λ t. IsHolding tr.held tr.takings s'.journal.shape.block t.lanes) (still_holding shape))
       (to (λ t. Fills tr.fill b t) tr.upright.fills)
@@ -132,7 +132,7 @@ module _ (first : State) (t0 : ℕ) (old new : Told) (s s' : Inside) (b : Rebuil
       → s'.history.items ≡ s.history.items ++ said (replies.No why.InDoubt) ∷ []
       → s'.journal.shape ≡ s.journal.shape → s'.journal.seat ≡ s.journal.seat → s'.journal.doubt ≡ Some doubt → s'.doubt ≡ Some doubted → s'.parts ≡ s.parts
       → ((parts : Parts) → Runs tr.held [] tr.takings parts (acted b c) → Runs tr.held [] tr.takings (in_form doubted.form parts) after')
-      → Fills tr.later_fill after' (committed last last.form effect)
+      → Fills tr.fill after' (committed last last.form effect)
       → IsSeated (record s.journal { seat = landed_seat s.journal.seat doubt }) (committed last last.form effect)
       → (IsTrue new.honest → IsHeld first (tapes_of s) t0 s'.journal new b after' (s.history.items ++ said (replies.No why.InDoubt) ∷ []))
       → Stood first t0 new s'
@@ -141,7 +141,7 @@ module _ (first : State) (t0 : ℕ) (old new : Told) (s s' : Inside) (b : Rebuil
       let to : (P : State → Type 0) → P waiting → P (state_after last (tapes_of s) e) = λ P p. subst P (sym next_waits) p in
       let there : (P : State → Type 0) → P (committed last last.form effect) → P (landed waiting) = λ P p. subst P (sym lands_then) p in
       let seat_then : landed_seat s'.journal.seat doubt ≡ landed_seat s.journal.seat doubt = ap (λ (x : Seat). landed_seat x doubt) seat in
-      stood_pushed first t0 old new s s' e tapes items tr.fill tr.fill b b b after' tr.held tr.takings tr.upright later alike refl (answer_on new.honest last (tapes_of s) e tr.may.doubts)
+      stood_pushed first t0 old new s s' e tapes items tr.fill b b b after' tr.held tr.takings tr.upright later alike refl (answer_on new.honest last (tapes_of s) e tr.may.doubts)
       (to (λ t. IsState t) valid_waits)
       (to (λ t. IsHolding tr.held tr.takings s'.journal.shape.block t.lanes) (still_holding shape))
       (to (λ t. Fills tr.fill b t) (record { spots = tr.upright.fills.spots; kept = tr.upright.fills.kept; form = tr.upright.fills.form }))
@@ -159,12 +159,10 @@ module _ (first : State) (t0 : ℕ) (old new : Told) (s s' : Inside) (b : Rebuil
         ready = subst (λ (p : Parts). IsNext tr.held tr.takings p b doubted.next c) (sym parts) (subst (λ (n : NextChange). IsNext tr.held tr.takings s.parts b n c) (sym same) tr.ready);
         addresses = tr.addresses;
         spelled = tr.change;
-        later_fill = tr.later_fill;
-        brings_it = to (λ t. Brings tr.later_fill b c t effect) (record { spots = tr.brings_it.spots; kept = tr.brings_it.kept });
-        lands = to (λ t. Lands tr.held tr.takings s'.journal doubted b after' t c doubt) (record {
+        brings_it = to (λ t. Brings tr.fill b c t effect) (record { spots = tr.brings_it.spots; kept = tr.brings_it.kept });
+        lands = to (λ t. Lands tr.fill tr.held tr.takings s'.journal doubted b after' t c doubt) (record {
           tables = tables;
-          fill = tr.later_fill;
-          fills = there (λ t. Fills tr.later_fill after' t) fills;
+          fills = there (λ t. Fills tr.fill after' t) fills;
           seated = there (λ t. IsSeated (record s'.journal { seat = landed_seat s'.journal.seat doubt }) t)
               (seated_as (record s.journal { seat = landed_seat s.journal.seat doubt }) (record s'.journal { seat = landed_seat s'.journal.seat doubt }) (committed last last.form effect) shape seat_then seated);
           valid = valid_landed;

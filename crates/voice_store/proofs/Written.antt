@@ -56,7 +56,7 @@ use Rattle.voice_store.proofs.Pushed.{as_honest}
 use Rattle.voice_store.proofs.Making.{IsMaking, may_commit}
 use Rattle.voice_store.proofs.Recordable.{many as taken_as, recording_free}
 use Rattle.voice_store.proofs.Spared.{below_at, free_at, distinct_at, spares_within}
-use Rattle.voice_store.proofs.Taking.{later_fill, later_spots, brings_recording}
+use Rattle.voice_store.proofs.Taking.{later_fill, later_spots, kept_before, brings_recording}
 
 -- a recording makes a rope and does nothing else
 recording_makes : (s : State) (tapes : List (List ℕ)) (take : Take) → IsMaking s tapes (calls.Record take)
@@ -211,11 +211,26 @@ module _ (first : State) (t0 : ℕ) (old : Told) (s : Inside) (take : Take) (nex
       held = λ is. held_on b (up.held (to_old is)) (to_old is);
     }
 
+    -- the recording's bytes are filled in besides
+    upright_later : Upright first t0 new s later b b
+    upright_later = let up = upright_on in record {
+      legal = up.legal;
+      valid = up.valid;
+      fills = record {
+        spots = later_spots h.makes.stood.fill up.fills.spots last.next bytes;
+        kept = kept_before h.makes.stood.fill up.fills.spots last.next bytes b tables_then.tables.placed (subst (λ n. b.next ≤ n) number (omega arith)) ∙ up.fills.kept;
+        form = up.fills.form;
+      };
+      seated = up.seated;
+      acks = up.acks;
+      held = up.held;
+    }
+
     -- all was written
     pub trying_recording : (caller : ℕ) → (IsTrue old.honest → HasBytes new.bytes s.journal.shape addresses bytes) → (answer : Reply) → answer ≡ reply → Trying first t0 new s b (changes.Rope next) change effect caller (calls.Record take) answer
     trying_recording caller has answer answers = record {
-      fill = h.makes.stood.fill;
-      upright = upright_on;
+      fill = later;
+      upright = upright_later;
       sure = h.makes.sure;
       in_journal = tables_then.in_journal;
       held = h.makes.stood.held;
@@ -227,7 +242,6 @@ module _ (first : State) (t0 : ℕ) (old : Told) (s : Inside) (take : Take) (nex
       may = may caller;
       replies = reply_is ∙ sym answers;
       in_range = tt;
-      later_fill = later;
       brings_it = record { spots = later_spots h.makes.stood.fill h.makes.stood.upright.fills.spots last.next bytes; kept = brings_kept };
       does = λ is.
           let sound = (standing_gives laws new).now first (tapes_of s) t0 s.journal b b s.history.items (moments (to_old is)).is (upright_on.held is) in

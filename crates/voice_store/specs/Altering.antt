@@ -31,8 +31,7 @@ pub record Weighs (s : Inside) (b : Rebuilt) (next : NextChange) (c : Change) (s
   pub fills : Fills fill b state
   pub seated : IsSeated s.journal state
   pub frame : frame_size state.form state.kept.shape.block effect ≡ 5 + length (payload_of next)
-  pub later_fill : Spot → Tagged
-  pub brings_it : Brings later_fill b c state effect
+  pub brings_it : Brings fill b c state effect
 
 -- nothing is in doubt, and nothing refuses the call that makes a change ready, but perhaps the journal
 pub record Alters (first : State) (t0 : ℕ) (disk : Told) (s : Inside) (call : Call) (ready : ReadyChange) (reply : Reply) (growth : Growth) : Type 0 where

@@ -111,15 +111,14 @@ abbrev pub in_form : ℕ → Parts → Parts
 in_form form parts = record parts { form = form }
 
 -- once what is in doubt has landed, and is done, the tables show the state
-pub record Lands (held : List (List Piece)) (takings : List ℕ) (journal : JournalValue) (doubted : Doubted) (b after : Rebuilt) (last : State) (c : Change) (doubt : Doubt) : Type 0 where
+pub record Lands (fill : Spot → Tagged) (held : List (List Piece)) (takings : List ℕ) (journal : JournalValue) (doubted : Doubted) (b after : Rebuilt) (last : State) (c : Change) (doubt : Doubt) : Type 0 where
   pub tables : (parts : Parts) → Runs held [] takings parts (acted b c) → Runs held [] takings (in_form doubted.form parts) after
-  pub fill : Spot → Tagged
   pub fills : Fills fill after (landed last)
   pub seated : IsSeated (record journal { seat = landed_seat journal.seat doubt }) (landed last)
   pub valid : IsState (landed last)
 
--- a change is in doubt, and ready to be done
-pub record IsUnsure (held : List (List Piece)) (takings : List ℕ) (s : Inside) (b after : Rebuilt) (last : State) : Type 0 where
+-- a change is in doubt, and ready to be done; its samples are filled in already
+pub record IsUnsure (fill : Spot → Tagged) (held : List (List Piece)) (takings : List ℕ) (s : Inside) (b after : Rebuilt) (last : State) : Type 0 where
   pub doubted : Doubted
   pub unsure : s.doubt ≡ Some doubted
   pub pending : Pending
@@ -130,9 +129,8 @@ pub record IsUnsure (held : List (List Piece)) (takings : List ℕ) (s : Inside)
   pub ready : IsNext held takings s.parts b doubted.next change
   pub addresses : List ℕ
   pub spelled : change ≡ change_of b.form addresses pending.effect
-  pub later_fill : Spot → Tagged
-  pub brings_it : Brings later_fill b change last pending.effect
-  pub lands : Lands held takings s.journal doubted b after last change doubt
+  pub brings_it : Brings fill b change last pending.effect
+  pub lands : Lands fill held takings s.journal doubted b after last change doubt
 
 -- what a store keeps, between its calls, that was opened at moment t0
 pub record Stood (first : State) (t0 : ℕ) (disk : Told) (s : Inside) : Type 0 where
@@ -143,5 +141,5 @@ pub record Stood (first : State) (t0 : ℕ) (disk : Told) (s : Inside) : Type 0 
   pub takings : List ℕ
   pub holding : IsHolding held takings s.journal.shape.block (last_of first s).lanes
   pub upright : Upright first t0 disk s fill b after
-  pub tables : IsSure held takings s b after (last_of first s) ⊎ IsUnsure held takings s b after (last_of first s)
+  pub tables : IsSure held takings s b after (last_of first s) ⊎ IsUnsure fill held takings s b after (last_of first s)
   pub size : extent s.journal.shape ≤ disk.size

@@ -64,8 +64,7 @@ pub record Trying (first : State) (t0 : ℕ) (disk : Told) (s : Inside) (b : Reb
   pub may : MayCommit (last_of first s) (tapes_of s) caller call effect
   pub replies : reply_of (last_of first s) (tapes_of s) call ≡ reply
   pub in_range : InRange call
-  pub later_fill : Spot → Tagged
-  pub brings_it : Brings later_fill b c (last_of first s) effect
+  pub brings_it : Brings fill b c (last_of first s) effect
   pub does : IsTrue disk.honest → recovered disk.bytes (acted b c) ≡ changed (last_of first s).form (last_of first s).kept effect
   pub frame : frame_size (last_of first s).form (last_of first s).kept.shape.block effect ≡ 5 + length (payload_of next)
   pub size : extent s.journal.shape ≤ disk.size

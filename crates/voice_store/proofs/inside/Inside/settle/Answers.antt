@@ -31,7 +31,7 @@ returns-then-is_err-clause-stood g c =
     } in
     let failed = sym c.is_err.ensures.value ∙ c.if-is_err.true in
     let some : is_none s.doubt ≡ false = search rules in
-    let unsure = unsure_by stood.held stood.takings s stood.b stood.after (last_of first s) some stood.tables in
+    let unsure = unsure_by stood.fill stood.held stood.takings s stood.b stood.after (last_of first s) some stood.tables in
     stood_not_landed first t0 old new s s stood unsure made.later made.size made.honest moments (landings_carry c.foundations.ensures old new) c.land.new.self
     (on_err c.land.result _ failed c.land.ensures.failed_state)
     (λ h. ((λ r p stands. on_err c.land.result _ failed (c.land.ensures.failed h r p stands)), c.land.ensures.crash h))
@@ -44,7 +44,7 @@ take_in-requires g c =
     let s = c.args.self.now in
     let done = sym c.is_err.ensures.value ∙ c.if-is_err.false in
     let was : s.doubt ≡ Some c.in-Some.doubted = search rules in
-    let unsure = unsure_of stood.held stood.takings s stood.b stood.after (last_of first s) c.in-Some.doubted was stood.tables in
+    let unsure = unsure_of stood.fill stood.held stood.takings s stood.b stood.after (last_of first s) c.in-Some.doubted was stood.tables in
     let journal : c.land.new.self ≡ landed_journal s.journal unsure.doubt = on_ok c.land.result _ done c.land.ensures.ok_state unsure.doubt unsure.in_journal in
     ready_in first t0 (g.D.Disk.told c.args.disk.now) s stood unsure c.in-Some.doubted _
     (same_doubted s unsure.doubted c.in-Some.doubted unsure.unsure was) refl (ap (λ (j : JournalValue). j.shape) journal)
@@ -66,7 +66,7 @@ returns-clause-stood g c =
     let done = sym c.is_err.ensures.value ∙ c.if-is_err.false in
     let was : s.doubt ≡ Some c.in-Some.doubted = search rules in
     let taken : c.take.new.self ≡ None = search rules in
-    let unsure = unsure_of stood.held stood.takings s stood.b stood.after (last_of first s) c.in-Some.doubted was stood.tables in
+    let unsure = unsure_of stood.fill stood.held stood.takings s stood.b stood.after (last_of first s) c.in-Some.doubted was stood.tables in
     let same = same_doubted s unsure.doubted c.in-Some.doubted unsure.unsure was in
     let journal : c.land.new.self ≡ landed_journal s.journal unsure.doubt = on_ok c.land.result _ done c.land.ensures.ok_state unsure.doubt unsure.in_journal in
     let rest = c.take_in.ensures.rest in
@@ -95,8 +95,8 @@ pub returns-then-is_err-clause-calls : goal.returns-then-is_err-clause-calls
 returns-then-is_err-clause-calls g c = λ first t0 stood.
     let s = c.args.self.now in
     let some : is_none s.doubt ≡ false = search rules in
-    let unsure = unsure_by stood.held stood.takings s stood.b stood.after (last_of first s) some stood.tables in
-    let two = landing_two stood.held stood.takings s stood.b stood.after (last_of first s) unsure in
+    let unsure = unsure_by stood.fill stood.held stood.takings s stood.b stood.after (last_of first s) some stood.tables in
+    let two = landing_two stood.fill stood.held stood.takings s stood.b stood.after (last_of first s) unsure in
     let made = c.land.ensures.made.calls in
     omega (arith, made, two)
 
@@ -104,8 +104,8 @@ pub returns-clause-calls : goal.returns-clause-calls
 returns-clause-calls g c = λ first t0 stood.
     let s = c.args.self.now in
     let some : is_none s.doubt ≡ false = search rules in
-    let unsure = unsure_by stood.held stood.takings s stood.b stood.after (last_of first s) some stood.tables in
-    let two = landing_two stood.held stood.takings s stood.b stood.after (last_of first s) unsure in
+    let unsure = unsure_by stood.fill stood.held stood.takings s stood.b stood.after (last_of first s) some stood.tables in
+    let two = landing_two stood.fill stood.held stood.takings s stood.b stood.after (last_of first s) unsure in
     let made = c.land.ensures.made.calls in
     omega (arith, made, two)
 
