@@ -1,0 +1,7 @@
+mod AnchorLaws
+pub mod Fronts
+mod KeyLaws
+mod Keys
+mod LineLaws
+mod Lines
+mod Listed

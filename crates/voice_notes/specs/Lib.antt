@@ -1,0 +1,4 @@
+pub mod Anchors
+pub mod Index
+pub mod Kept
+pub mod Laws
