@@ -6,6 +6,8 @@ use std::env::{Env, args};
 use std::fs::File;
 use std::io;
 use std::rt::{Clock, Files};
+use std::sync::Wait;
+use std::thread::Threads;
 
 const MEASUREMENTS: &str = "\
 voice_bench MEASUREMENT: prints figures of this machine.
@@ -19,6 +21,12 @@ voice_bench MEASUREMENT: prints figures of this machine.
   replay   replay of 16 MiB of changes, against reading them and looking each number up
   mail     replay of mail that is kept and forgotten, by the number of changes
   compact  the base of a state, by the number of ropes
+  open     opening a store of 20,000 ropes, against parsing its records
+  growth   opening a store, by the number of changes in its journal
+  edits    edits to a file of this folder and in memory, against bare calls
+  record   recording 1 MiB in memory, against bare calls
+  calls    calls on rows, on the moment and of sweeps, by the number of rows
+  turns    calls through a server with 1, 2, 4 and 16 callers on threads, against the store alone
   all      each of these
 ";
 
@@ -32,11 +40,13 @@ fn words<R: Env + AllocGlobal>(rt: &R) -> io::Result<Vec<String>> {
     Ok(words)
 }
 
-fn measure<R: Print + Clock + AllocGlobal + Files<File = File>>(
+fn measure<R: Print + Clock + AllocGlobal + Files<File = File> + Threads + Wait + Sync>(
     rt: &R,
     word: &str,
 ) -> io::Result<()> {
-    table_measures::measure(rt, word)
+    table_measures::measure(rt, word)?;
+    store_measures::measure(rt, word)?;
+    turn_measures::measure(rt, word)
 }
 
 fn main(rt: HostRuntime) -> io::Result<()> {

@@ -1,0 +1,14 @@
+//! Measurements of the store, each as a ratio to the same work made bare, in one run, or by the number of rows or of changes.
+#![tactic(auto)]
+
+mod asking;
+mod choosing;
+mod editing;
+pub mod figures;
+mod growing;
+pub mod images;
+mod opening;
+mod recording;
+pub mod stores;
+
+pub use choosing::measure;
