@@ -147,12 +147,12 @@ fn compare_pieces<R: Clock, D: Disk>(
     disk: &mut MemDisk,
     tapes: &Tapes,
     room: &mut [u8],
-    figures: &mut [u128],
+    figures: &mut [u128; PIECES as usize],
 ) -> io::Result<()>
     requires { tapes_in store.old ≡ tapes.now }
 {
-    for (k, figure) in figures.iter_mut().enumerate() {
-        *figure = compare_piece(rt, store, disk, tapes, k as u32, room)?;
+    for k in 0..PIECES {
+        figures[k as usize] = compare_piece(rt, store, disk, tapes, k, room)?;
     }
     Ok(())
 }
