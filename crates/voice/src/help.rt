@@ -13,6 +13,8 @@ voice: a voice manager. It runs a script of calls, and prints one line for each.
                      number behind each: --block 4096, --blocks 15000,
                      --area 1048576, --grace 86400, --lanes 8 (the defaults);
                      --held, --until, --listed N: another grace for that class
+  voice import AU FILE  writes the samples of the AU file AU into FILE
+  voice export FILE AU  writes an AU file of FILE's samples into AU
   voice --help       prints this; voice --version prints the version
 
 The disk is the file voice.disk of the current folder; where there is none it is
@@ -28,5 +30,5 @@ ROPE a variable or number, CLASS held, until or listed; docs/SCRIPT.md tells the
 
 Exit status: 0 done, 2 bad words or shape, 3 a line of the script is refused, 4 a file
 is absent, 5 the folder failed, 6 the output failed, 7 the disk is damaged, 8 the disk
-failed, 9 no memory. The cause is printed on standard error.
+failed, 9 no memory, 10 a file is no AU file of the profile. The cause is printed on standard error.
 ";

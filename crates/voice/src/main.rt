@@ -10,8 +10,8 @@ use disk_file::open;
 use help::{HELP, VERSION};
 use std::alloc::AllocError;
 use std::process::ExitCode;
-use voice_main::{Status, run};
-use voice_outside::{FolderShelf, OpenGate, StdSink};
+use voice_main::{Status, is_conversion, run};
+use voice_outside::{FolderShelf, NoDisk, OpenGate, StdSink};
 
 // Tells how the run ended on standard error, unless it is done, and by the exit status.
 fn exit(rt: &impl Eprint, status: Status) -> ExitCode {
@@ -47,6 +47,18 @@ fn main(rt: HostRuntime) -> ExitCode {
             "--version" => return tell(&rt, VERSION),
             _ => {}
         }
+    }
+    if is_conversion(&words) {
+        let ended = run(
+            &rt,
+            rt.alloc(),
+            &words,
+            &mut FolderShelf::new(&rt),
+            &mut StdSink::new(&rt),
+            NoDisk::new(),
+            &OpenGate,
+        );
+        return exit(&rt, ended.status);
     }
     let (mut disk, is_new) = match open(&rt) {
         Ok(pair) => pair,

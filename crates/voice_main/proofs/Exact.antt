@@ -1,5 +1,5 @@
 -- The statuses that the files decide exclude one another.
-use Rattle.std.proofs.Common.{◌≡◌, ℕ, zero, suc, ◌⊎◌, ◌<◌, ◌≤◌, ◌-◌, ◌^◌, ◌+◌, inl, inr, List, [], ◌∷◌, ◌++◌, map, Some, None, Option, Bool, true, false, sym, refl, ap, subst, ◌∙◌, arith}
+use Rattle.std.proofs.Common.{◌≡◌, ℕ, zero, suc, ◌⊎◌, ◌<◌, ◌≤◌, ◌-◌, ◌^◌, ◌+◌, inl, inr, List, [], ◌∷◌, ◌++◌, map, Some, None, Option, Bool, sym, refl, ap, subst, ◌∙◌, arith}
 use Rattle.std.specs.Prelude.{IfSome, IsTrue, count_by}
 use Rattle.std.specs.FinMap.{get}
 use Rattle.voice_model.specs.declared.calls.Entry.{Entry}
@@ -11,14 +11,14 @@ use Rattle.voice_model.specs.Image as image
 use Rattle.voice_model.specs.State.{State}
 use Rattle.voice_store.specs.Stood.{is_fault}
 use Rattle.voice_main.specs.declared.status.Status.{Status}
-use Rattle.voice_main.specs.declared.status.Status.TheVariants.{Done, Usage, BadShape, BadScript, NoFile, ShelfFault, SinkFault, BadDisk, DiskFault, NoMemory}
+use Rattle.voice_main.specs.declared.status.Status.TheVariants.{Done, Usage, BadShape, BadScript, NoFile, ShelfFault, SinkFault, BadDisk, DiskFault, NoMemory, BadAu}
 use Rattle.script_lang.specs.Shown.{Reading}
 use Rattle.script_lang.specs.Verbs.{is_built_verb}
 use Rattle.script_lang.specs.Grammar.{IsScript}
 use Rattle.script_lang.specs.Causes.{FirstBad}
 use Rattle.voice_main.specs.Load.{AreFiles, FirstAbsent}
 use Rattle.voice_main.specs.Outside.{Outside, outside}
-use Rattle.voice_main.specs.Ran.{IsReady, IsThere, RanWhole}
+use Rattle.voice_main.specs.Ran.{IsReady, IsThere}
 use Rattle.voice_main.specs.RunPromise.{IsBadScript, IsNoFile, IsRead, IsExact, IsComplete, NoFaults, RunComes, RunSoFar, RunPromise}
 use Rattle.voice_main.specs.Statuses.{Stops}
 use Rattle.script_lang.proofs.Once.{one_script, script_not_bad, one_bad}
@@ -131,6 +131,12 @@ exact threads name files a b c d disk new history Usage h = record {
   bad_disk = absurd h;
   good_disk = absurd h;
 }
+exact threads name files a b c d disk new history (BadAu other cause) h = record {
+  bad_script = absurd h;
+  no_file = absurd h;
+  bad_disk = absurd h;
+  good_disk = absurd h;
+}
 exact threads name files a b c d disk new history BadShape h = record {
   bad_script = absurd h;
   no_file = absurd h;
@@ -182,6 +188,7 @@ complete threads name files a b c d disk new history status h so_far later = λ 
     by ShelfFault h there honest read calm dry still = absurd (calm h)
     by BadShape h there honest read calm dry still = absurd h
     by Usage h there honest read calm dry still = absurd h
+    by (BadAu other cause) h there honest read calm dry still = absurd h
     by (BadScript n) h there honest read calm dry still = absurd (ready_not_bad files name there.script there.tapes n there.ready h)
     by (NoFile x) h there honest read calm dry still = absurd (ready_not_absent files name there.script there.tapes x there.ready h)
     by (BadDisk place) h there honest read calm dry still = absurd (read_not_bad disk place read (h.0 honest))
@@ -204,6 +211,7 @@ stopped threads name told a b c d disk new history ShelfFault h = h
 stopped threads name told a b c d disk new history SinkFault h = absurd h
 stopped threads name told a b c d disk new history (BadDisk place) h = absurd h
 stopped threads name told a b c d disk new history DiskFault h = absurd h
+stopped threads name told a b c d disk new history (BadAu other cause) h = absurd h
 stopped threads name told a b c d disk new history NoMemory h = tt
 
 -- a run that ended before it touched the disk

@@ -14,3 +14,6 @@ pub mod Walked
 pub mod Taken
 pub mod Shares
 pub mod Said
+pub mod Converted
+pub mod ConversionExact
+pub mod Asked

@@ -1,15 +1,20 @@
 -- Words say at most one command.
-use Rattle.std.proofs.Common.{◌≡◌, ℕ, ◌⊎◌, inl, inr, List, [], ◌∷◌, Bool, true, false, sym, ap, subst, ◌∙◌}
-use Rattle.std.specs.Prelude.{codes, IsTrue}
+use Rattle.std.proofs.Common.{◌≡◌, ℕ, ◌⊎◌, inl, inr, List, [], ◌∷◌, Bool, true, false, refl, sym, ap, subst, ◌∙◌}
+use Rattle.std.specs.Prelude.{codes, IsTrue, bytes_eq}
+use Rattle.std.proofs.lemmas.Bool.{false≢true}
 use Rattle.script_lang.specs.Forms.{is_file}
 use Rattle.voice_model.specs.declared.calls.Entry.{Entry}
 use Rattle.voice_main.specs.declared.options.FormatNumbers.{FormatNumbers}
 use Rattle.voice_main.specs.declared.status.Status.{Status}
 use Rattle.voice_main.specs.declared.status.Status.TheVariants.{Done, Usage, NoMemory}
-use Rattle.voice_main.specs.Words.{Command, Says, run_command, IsSerial, IsThreaded, IsFormat, IsRefused, IsNoRun, IsNoFormat}
+use Rattle.voice_main.specs.Words.{Command, Says, run_command, IsSerial, IsThreaded, IsFormat, IsConversion, IsRefused, IsNoRun, IsNoFormat, IsNoConversion}
+use Rattle.voice_main.specs.declared.convert.Way.{Way}
+use Rattle.voice_main.specs.declared.convert.Way.TheVariants as ways
+use Rattle.voice_main.specs.Conversions.{way_word}
 use Rattle.voice_main.specs.Outside.{Outside}
 use Rattle.voice_main.specs.RunPromise.{RunPromise}
 use Rattle.voice_main.specs.FormatPromise.{FormatPromise}
+use Rattle.voice_main.specs.ConversionPromise.{ConversionPromise}
 use Rattle.voice_main.specs.Promises.{Promises, Comes}
 
 -- `--threads` names no file
@@ -49,10 +54,42 @@ not_both true words name numbers r f = by r.form
     by (inl e) = run_not_format (name ∷ codes "--threads" ∷ []) f.options (sym e ∙ f.form)
     by (inr e) = run_not_format (codes "--threads" ∷ name ∷ []) f.options (sym e ∙ f.form)
 
-pub refused_by : (words : List (List ℕ)) → IsNoRun words → IsNoFormat words → IsRefused words
-refused_by words run format (Command.Run name) = run false name
-refused_by words run format (Command.RunThreads name) = run true name
-refused_by words run format (Command.Format numbers) = format numbers
+-- whether the first word is that one: of words that are written out it computes
+abbrev begins : List ℕ → List (List ℕ) → Bool
+begins word [] = false
+begins word (first ∷ rest) = bytes_eq word first
+
+run_not_way : (way : Way) (rest others : List (List ℕ)) → codes "run" ∷ rest ≡ way_word way ∷ others → ⊥
+run_not_way ways.Import rest others e = false≢true (sym (ap (begins (codes "run")) e))
+run_not_way ways.Export rest others e = false≢true (sym (ap (begins (codes "run")) e))
+
+format_not_way : (way : Way) (rest others : List (List ℕ)) → codes "format" ∷ rest ≡ way_word way ∷ others → ⊥
+format_not_way ways.Import rest others e = false≢true (sym (ap (begins (codes "format")) e))
+format_not_way ways.Export rest others e = false≢true (sym (ap (begins (codes "format")) e))
+
+run_not_conversion : (threads : Bool) (words : List (List ℕ)) (name : List ℕ) (way : Way) (source target : List ℕ) → Says words (run_command threads name) → IsConversion way words source target → ⊥
+run_not_conversion false words name way source target r q = run_not_way way (name ∷ []) (source ∷ target ∷ []) (sym r.form ∙ q.form)
+run_not_conversion true words name way source target r q = by r.form
+  where
+    by : (words ≡ codes "run" ∷ name ∷ codes "--threads" ∷ []) ⊎ (words ≡ codes "run" ∷ codes "--threads" ∷ name ∷ []) → ⊥
+    by (inl e) = run_not_way way (name ∷ codes "--threads" ∷ []) (source ∷ target ∷ []) (sym e ∙ q.form)
+    by (inr e) = run_not_way way (codes "--threads" ∷ name ∷ []) (source ∷ target ∷ []) (sym e ∙ q.form)
+
+format_not_conversion : (words : List (List ℕ)) (numbers : FormatNumbers) (way : Way) (source target : List ℕ) → IsFormat words numbers → IsConversion way words source target → ⊥
+format_not_conversion words numbers way source target f q = format_not_way way f.options (source ∷ target ∷ []) (sym f.form ∙ q.form)
+
+-- words ask for one conversion
+same_way : (words : List (List ℕ)) (a b : Way) (s t u v : List ℕ) → words ≡ way_word a ∷ s ∷ t ∷ [] → words ≡ way_word b ∷ u ∷ v ∷ [] → (a ≡ b) × (s ≡ u) × (t ≡ v)
+same_way words ways.Import ways.Import s t u v p q = let e : codes "import" ∷ s ∷ t ∷ [] ≡ codes "import" ∷ u ∷ v ∷ [] = sym p ∙ q in let first : s ≡ u = cc in let second : t ≡ v = cc in (refl, first, second)
+same_way words ways.Export ways.Export s t u v p q = let e : codes "export" ∷ s ∷ t ∷ [] ≡ codes "export" ∷ u ∷ v ∷ [] = sym p ∙ q in let first : s ≡ u = cc in let second : t ≡ v = cc in (refl, first, second)
+same_way words ways.Import ways.Export s t u v p q = absurd (false≢true (sym (ap (begins (codes "import")) (sym p ∙ q))))
+same_way words ways.Export ways.Import s t u v p q = absurd (false≢true (sym (ap (begins (codes "export")) (sym p ∙ q))))
+
+pub refused_by : (words : List (List ℕ)) → IsNoRun words → IsNoFormat words → IsNoConversion words → IsRefused words
+refused_by words run format convert (Command.Run name) = run false name
+refused_by words run format convert (Command.RunThreads name) = run true name
+refused_by words run format convert (Command.Format numbers) = format numbers
+refused_by words run format convert (Command.Convert way source target) = convert way source target
 
 -- the promise of the run that the words say is that of whatever command they say
 pub run_only : (threads : Bool) (words : List (List ℕ)) (name : List ℕ) (old new : Outside) (status : Status) (history : List Entry) → Says words (run_command threads name) → RunPromise threads name old new status history → (command : Command) → Says words command → Promises command old new status history
@@ -61,23 +98,40 @@ run_only true words name old new status history p h (Command.Run b) q = absurd (
 run_only false words name old new status history p h (Command.RunThreads b) q = absurd (serial_not_threaded words name b p q)
 run_only true words name old new status history p h (Command.RunThreads b) q = subst (λ n. RunPromise true n old new status history) (same_threaded words name b p q) h
 run_only threads words name old new status history p h (Command.Format numbers) q = absurd (not_both threads words name numbers p q)
+run_only threads words name old new status history p h (Command.Convert way source target) q = absurd (run_not_conversion threads words name way source target p q)
 
 pub run_comes : (threads : Bool) (words : List (List ℕ)) (name : List ℕ) (old new : Outside) (status : Status) (history : List Entry) → Says words (run_command threads name) → RunPromise threads name old new status history → Comes words old new status history
 run_comes false words name old new status history p h = inr (Command.Run name, p, h)
 run_comes true words name old new status history p h = inr (Command.RunThreads name, p, h)
 
-pub format_only : (words : List (List ℕ)) (old new : Outside) (status : Status) (history : List Entry) → IsNoRun words → ((numbers : FormatNumbers) → IsFormat words numbers → FormatPromise numbers old new status history) → (command : Command) → Says words command → Promises command old new status history
-format_only words old new status history none h (Command.Run b) q = absurd (none false b q)
-format_only words old new status history none h (Command.RunThreads b) q = absurd (none true b q)
-format_only words old new status history none h (Command.Format numbers) q = h numbers q
+pub format_only : (words : List (List ℕ)) (old new : Outside) (status : Status) (history : List Entry) → IsNoRun words → IsNoConversion words → ((numbers : FormatNumbers) → IsFormat words numbers → FormatPromise numbers old new status history) → (command : Command) → Says words command → Promises command old new status history
+format_only words old new status history none other h (Command.Run b) q = absurd (none false b q)
+format_only words old new status history none other h (Command.RunThreads b) q = absurd (none true b q)
+format_only words old new status history none other h (Command.Format numbers) q = h numbers q
+format_only words old new status history none other h (Command.Convert way source target) q = absurd (other way source target q)
 
 pub format_comes : (words : List (List ℕ)) (numbers : FormatNumbers) (old new : Outside) (status : Status) (history : List Entry) → IsFormat words numbers → FormatPromise numbers old new status history → Comes words old new status history
 format_comes words numbers old new status history p h = inr (Command.Format numbers, p, h)
+
+-- the promise of the conversion that the words ask for is that of whatever command they say
+pub conversion_only : (way : Way) (words : List (List ℕ)) (source target : List ℕ) (old new : Outside) (status : Status) (history : List Entry) → IsConversion way words source target → ConversionPromise way source target old new status history → (command : Command) → Says words command → Promises command old new status history
+conversion_only way words source target old new status history p h (Command.Run b) q = absurd (run_not_conversion false words b way source target q p)
+conversion_only way words source target old new status history p h (Command.RunThreads b) q = absurd (run_not_conversion true words b way source target q p)
+conversion_only way words source target old new status history p h (Command.Format numbers) q = absurd (format_not_conversion words numbers way source target q p)
+conversion_only way words source target old new status history p h (Command.Convert other s t) q =
+    let same = same_way words way other source target s t p.form q.form in
+    let at_way = subst (λ w. ConversionPromise w source target old new status history) same.0 h in
+    let at_source = subst (λ n. ConversionPromise other n target old new status history) same.1 at_way in
+    subst (λ n. ConversionPromise other s n old new status history) same.2 at_source
+
+pub conversion_comes : (way : Way) (words : List (List ℕ)) (source target : List ℕ) (old new : Outside) (status : Status) (history : List Entry) → IsConversion way words source target → ConversionPromise way source target old new status history → Comes words old new status history
+conversion_comes way words source target old new status history p h = inr (Command.Convert way source target, p, h)
 
 aloud : (command : Command) (old new : Outside) (history : List Entry) → Promises command old new Usage history → ⊥
 aloud (Command.Run name) old new history h = h.comes
 aloud (Command.RunThreads name) old new history h = h.comes
 aloud (Command.Format numbers) old new history h = h.comes
+aloud (Command.Convert way source target) old new history h = h.comes
 
 -- usage comes exactly where the words are refused
 pub usage_of : (words : List (List ℕ)) (old new : Outside) (status : Status) (history : List Entry) → Comes words old new status history → IsRefused words → status ≡ Usage

@@ -6,6 +6,8 @@ pub mod Ordered
 pub mod Ran
 pub mod RunPromise
 pub mod FormatPromise
+pub mod Conversions
+pub mod ConversionPromise
 pub mod Promises
 pub mod Statuses
 pub mod Commands

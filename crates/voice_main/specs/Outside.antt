@@ -2,7 +2,7 @@
 --     Outside      the shelf, the sink and the disk at one moment
 --     ShelfFaulted, SinkFaulted, DiskFaulted      a fault rose between two moments
 --     IsUnchanged old new      an honest disk was only looked at, or not touched
-use Rattle.std.specs.Prelude.{ℕ, List, Option, ◌≡◌, ◌⊎◌, IsTrue}
+use Rattle.std.specs.Prelude.{ℕ, List, Option, ◌⊎◌, IsTrue}
 use Rattle.voice_outside.specs.Counters.{HasRisen}
 use Rattle.voice_outside.specs.Disk.{Told}
 use Rattle.voice_outside.specs.Files.{Files}

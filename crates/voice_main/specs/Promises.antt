@@ -9,12 +9,14 @@ use Rattle.voice_main.specs.Words.{Command, Says, IsRefused}
 use Rattle.voice_main.specs.Outside.{Outside}
 use Rattle.voice_main.specs.RunPromise.{RunPromise}
 use Rattle.voice_main.specs.FormatPromise.{FormatPromise}
+use Rattle.voice_main.specs.ConversionPromise.{ConversionPromise}
 
 -- the promise of each command
 abbrev pub Promises : Command → Outside → Outside → Status → List Entry → Type 0
 Promises (Command.Run name) = RunPromise false name
 Promises (Command.RunThreads name) = RunPromise true name
 Promises (Command.Format numbers) = FormatPromise numbers
+Promises (Command.Convert way source target) = ConversionPromise way source target
 
 -- the words are refused, or they say a command, whose promise holds
 abbrev pub Comes : List (List ℕ) → Outside → Outside → Status → List Entry → Type 0

@@ -14,7 +14,7 @@ use Rattle.voice_journal.specs.declared.errors.OpenError.TheVariants as opening
 use Rattle.script_lang.specs.declared.scripts.ScriptError.{ScriptError}
 use Rattle.script_lang.specs.declared.scripts.ScriptError.TheVariants as script
 use Rattle.voice_main.specs.declared.status.Status.{Status}
-use Rattle.voice_main.specs.declared.status.Status.TheVariants.{Done, Usage, BadShape, BadScript, NoFile, ShelfFault, SinkFault, BadDisk, DiskFault, NoMemory}
+use Rattle.voice_main.specs.declared.status.Status.TheVariants.{Done, Usage, BadShape, BadScript, NoFile, ShelfFault, SinkFault, BadDisk, DiskFault, NoMemory, BadAu}
 use Rattle.voice_main.specs.declared.load.LoadError.{LoadError}
 use Rattle.voice_main.specs.declared.load.LoadError.TheVariants as load
 use Rattle.voice_main.specs.RunPromise.{IsBadScript, IsNoFile, IsDamaged}
@@ -31,6 +31,7 @@ code_of SinkFault = 6
 code_of (BadDisk place) = 7
 code_of DiskFault = 8
 code_of NoMemory = 9
+code_of (BadAu name cause) = 10
 
 -- why a run ended before it touched the disk
 abbrev pub Stops : List ℕ → Option Files → Type 0 → Status → Type 0
@@ -67,6 +68,7 @@ IsEarly BadShape = Unit {0}
 IsEarly (BadScript n) = Unit {0}
 IsEarly (NoFile name) = Unit {0}
 IsEarly ShelfFault = Unit {0}
+IsEarly (BadAu name cause) = Unit {0}
 IsEarly _ = ⊥
 
 -- the statuses that are decided before the first call

@@ -4,15 +4,18 @@
 --     IsRefused words      they ask for nothing that the program knows
 use Rattle.std.specs.Prelude.{ℕ, List, [], ◌∷◌, ◌≡◌, ◌⊎◌, Bool, true, false, codes, IsTrue}
 use Rattle.script_lang.specs.Forms.{is_file}
+use Rattle.voice_main.specs.declared.convert.Way.{Way}
+use Rattle.voice_main.specs.Conversions.{way_word}
 use Rattle.voice_main.specs.declared.options.Given.{Given}
 use Rattle.voice_main.specs.declared.options.FormatNumbers.{FormatNumbers}
 use Rattle.voice_main.specs.Options.{none_given, Gives, numbers_of}
 
--- what the words may ask for: a run of a script in its order, or of each caller's lines on a thread of its own; a disk formatted
+-- what the words may ask for: a run of a script in its order, or of each caller's lines on a thread of its own; a disk formatted; a file made of another
 pub data Command : Type 0 where
   Run : List ℕ → Command
   RunThreads : List ℕ → Command
   Format : FormatNumbers → Command
+  Convert : Way → List ℕ → List ℕ → Command
 
 -- the run of a script, on threads or not
 abbrev pub run_command : Bool → List ℕ → Command
@@ -37,10 +40,17 @@ pub record IsFormat (words : List (List ℕ)) (numbers : FormatNumbers) : Type 0
   pub gives : Gives none_given options given
   pub numbers_are : numbers ≡ numbers_of given
 
+-- they are `import AU FILE` or `export FILE AU`
+pub record IsConversion (way : Way) (words : List (List ℕ)) (source target : List ℕ) : Type 0 where
+  pub form : words ≡ way_word way ∷ source ∷ target ∷ []
+  pub source_file : IsTrue (is_file source)
+  pub target_file : IsTrue (is_file target)
+
 abbrev pub Says : List (List ℕ) → Command → Type 0
 Says words (Command.Run name) = IsSerial words name
 Says words (Command.RunThreads name) = IsThreaded words name
 Says words (Command.Format numbers) = IsFormat words numbers
+Says words (Command.Convert way source target) = IsConversion way words source target
 
 -- the words ask for nothing that the program knows
 abbrev pub IsRefused : List (List ℕ) → Type 0
@@ -53,3 +63,7 @@ IsNoRun words = (threads : Bool) (name : List ℕ) → Says words (run_command t
 -- they are no `format`
 abbrev pub IsNoFormat : List (List ℕ) → Type 0
 IsNoFormat words = (numbers : FormatNumbers) → IsFormat words numbers → ⊥
+
+-- they ask for no conversion
+abbrev pub IsNoConversion : List (List ℕ) → Type 0
+IsNoConversion words = (way : Way) (source target : List ℕ) → IsConversion way words source target → ⊥

@@ -2,6 +2,7 @@
 #![tactic(auto)]
 
 mod assigned;
+mod convert;
 mod format;
 mod load;
 mod numbers;
@@ -15,6 +16,7 @@ mod words;
 
 pub use status::Status;
 pub use top_call::{Ended, run};
+pub use words::is_conversion;
 
 #[cfg(test)]
 mod tests;

@@ -4,7 +4,9 @@ ghost use Rattle.std.specs.Prelude.{◌≡◌, ◌≤◌, IfOk, IfErr, IfSome, S
 ghost use Rattle.std.specs.FinMap as map;
 ghost use Rattle.voice_outside.specs.Counters.{HasRisen};
 ghost use Rattle.voice_main.specs.Load.{bytes_of, AreFiles, FirstAbsent, LoadIs};
+ghost use Rattle.voice_main.specs.Statuses.{load_status_of};
 
+use crate::status::Status;
 use std::alloc::Global;
 use voice_outside::{OutsideError, Shelf};
 use voice_units::Name;
@@ -16,6 +18,17 @@ pub enum LoadError {
     NoFile(Name),
     ShelfFault,
     NoMemory,
+}
+
+/// The status of a run whose file wasn't read.
+pub fn load_status(e: LoadError) -> Status
+    ensures { result ≡ load_status_of e }
+{
+    match e {
+        LoadError::NoFile(name) => Status::NoFile(name),
+        LoadError::ShelfFault => Status::ShelfFault,
+        LoadError::NoMemory => Status::NoMemory,
+    }
 }
 
 /// The file of that name. It leaves the files of the shelf as they are.

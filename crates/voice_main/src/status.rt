@@ -3,6 +3,7 @@
 ghost use Rattle.std.specs.Prelude.{◌≡◌};
 ghost use Rattle.voice_main.specs.Statuses.{code_of};
 
+use au_files::AuError;
 use thiserror::Error;
 use voice_units::Name;
 
@@ -36,6 +37,9 @@ pub enum Status {
     DiskFault,
     #[error("voice: no memory")]
     NoMemory,
+    /// That file is no AU file of the profile, for that cause.
+    #[error("voice: {0} is refused, cause {cause}", cause = .1.number())]
+    BadAu(Name, AuError),
 }
 
 impl Status {
@@ -53,6 +57,7 @@ impl Status {
             Status::BadDisk(_) => 7,
             Status::DiskFault => 8,
             Status::NoMemory => 9,
+            Status::BadAu(_, _) => 10,
         }
     }
 }

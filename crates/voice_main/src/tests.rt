@@ -3,11 +3,12 @@
 use crate::assigned::assigned;
 use crate::options::{FormatNumbers, format_numbers};
 use crate::{Status, run};
+use au_files::AuError;
 use std::alloc::Global;
 use std::sync::Wait;
 use std::test::Fail;
 use std::thread::Threads;
-use voice_outside::{MemShelf, MemSink, NoDisk, OpenGate};
+use voice_outside::{MemShelf, MemSink, NoDisk, OpenGate, Shelf};
 use voice_units::Name;
 
 fn strings(alloc: Global, words: &[&str]) -> Result<Vec<String>, Fail> {
@@ -227,5 +228,58 @@ fn clap_assigns_the_numbers_of_the_words(rt: HostRuntime) -> Result<(), Fail> {
         assert_eq!(rt; format_numbers(&words), wanted, "{line}");
         assert_eq!(rt; assigned(rt.alloc(), &words), wanted, "{line}");
     }
+    Ok(())
+}
+
+// An AU file of ten samples.
+const AU: &[u8; 34] = b".snd\0\0\0\x18\0\0\0\x0a\0\0\0\x01\0\0\x1f\x40\0\0\0\x01ABCDEFGHIJ";
+
+// How a conversion of these bytes ends, and the bytes of its target then.
+fn converted<R: Threads + Wait + Sync>(
+    rt: &R,
+    alloc: Global,
+    verb: &str,
+    bytes: &[u8],
+) -> Result<(Status, Option<Vec<u8>>), Fail> {
+    let words = strings(alloc, &[verb, "from", "to"])?;
+    let mut held = Vec::new(alloc);
+    held.push((Name::new(b"from")?, bytes.to_vec(alloc)?))?;
+    let mut shelf = MemShelf::new(alloc, held, Vec::new(alloc));
+    let mut sink = MemSink::new(alloc, Vec::new(alloc));
+    let ended = run(
+        rt,
+        alloc,
+        &words,
+        &mut shelf,
+        &mut sink,
+        NoDisk::new(),
+        &OpenGate,
+    );
+    let target = shelf.get(&Name::new(b"to")?)?;
+    Ok((ended.status, target))
+}
+
+#[test]
+fn au_files_are_imported(rt: HostRuntime) -> Result<(), Fail> {
+    let (status, samples) = converted(&rt, rt.alloc(), "import", AU)?;
+    assert_eq!(rt; status, Status::Done);
+    assert!(rt; samples.is_some_and(|s| s.as_slice() == b"ABCDEFGHIJ".as_slice()));
+    Ok(())
+}
+
+#[test]
+fn samples_are_exported(rt: HostRuntime) -> Result<(), Fail> {
+    let (status, file) = converted(&rt, rt.alloc(), "export", b"ABCDEFGHIJ")?;
+    assert_eq!(rt; status, Status::Done);
+    assert!(rt; file.is_some_and(|s| s.as_slice() == AU.as_slice()));
+    Ok(())
+}
+
+#[test]
+fn other_files_are_not_imported(rt: HostRuntime) -> Result<(), Fail> {
+    let from = Name::new(b"from")?;
+    let (status, target) = converted(&rt, rt.alloc(), "import", &AU[..23])?;
+    assert_eq!(rt; status, Status::BadAu(from, AuError::Short));
+    assert!(rt; target.is_none());
     Ok(())
 }

@@ -7,22 +7,24 @@ ghost use Rattle.voice_outside.specs.Counters.{HasRisen};
 ghost use Rattle.script_lang.specs.Verbs.{is_built_verb};
 ghost use Rattle.script_lang.specs.Whole.{IsWhole};
 ghost use Rattle.voice_store.specs.Facts.{GoesOn};
-ghost use Rattle.voice_main.specs.Words.{Command, Says, IsRefused};
+ghost use Rattle.voice_main.specs.Words.{Command, Says, IsRefused, IsConversion, IsNoConversion};
+ghost use Rattle.voice_main.specs.declared.convert.Way.{Way as WayValue};
 ghost use Rattle.voice_main.specs.Outside.{outside, IsUnchanged};
 ghost use Rattle.voice_main.specs.Ran.{IsReady, Performed, Begun, Made};
 ghost use Rattle.voice_main.specs.RunPromise.{RunPromise};
 ghost use Rattle.voice_main.specs.Promises.{Comes, Promises};
-ghost use Rattle.voice_main.specs.Statuses.{Stops, Opens, Performs, IsEarly, IsSilent, load_status_of, open_status_of, script_status_of};
+ghost use Rattle.voice_main.specs.Statuses.{Stops, Opens, Performs, IsEarly, IsSilent, open_status_of, script_status_of};
 
 use crate::assigned::assigned;
+use crate::convert::convert;
 use crate::format::format;
-use crate::load::{LoadError, file, files};
+use crate::load::{file, files, load_status};
 use crate::options::format_numbers;
 use crate::output::print;
 use crate::script_lines::run_lines;
 use crate::status::Status;
 use crate::threads::call_on_threads;
-use crate::words::run_words;
+use crate::words::{conversion_words, run_words};
 use script_lang::{Script, ScriptError, parse};
 use std::alloc::Global;
 use std::sync::{Arc, Wait};
@@ -45,16 +47,6 @@ pub struct Ended<D> {
 pub(crate) struct Scripted {
     pub(crate) script: Script,
     pub(crate) tapes: Arc<Tapes, Global>,
-}
-
-fn load_status(e: LoadError) -> Status
-    ensures { result ≡ load_status_of e }
-{
-    match e {
-        LoadError::NoFile(name) => Status::NoFile(name),
-        LoadError::ShelfFault => Status::ShelfFault,
-        LoadError::NoMemory => Status::NoMemory,
-    }
 }
 
 fn script_status(e: ScriptError) -> Status
@@ -242,8 +234,8 @@ fn run_script<R: Threads + Wait + Sync, K: Shelf, O: Sink, D: Disk, G: Gate>(
     }
 }
 
-/// Does what the words say.
-pub fn run<R: Threads + Wait + Sync, K: Shelf, O: Sink, D: Disk, G: Gate>(
+// Runs a script or formats the disk, as the words say.
+fn run_or_format<R: Threads + Wait + Sync, K: Shelf, O: Sink, D: Disk, G: Gate>(
     rt: &R,
     alloc: Global,
     words: &[String],
@@ -252,6 +244,7 @@ pub fn run<R: Threads + Wait + Sync, K: Shelf, O: Sink, D: Disk, G: Gate>(
     disk: D,
     gate: &G,
 ) -> Ended<D>
+    requires { IsNoConversion (map string_bytes words.now) }
     // The words are refused, or they say a command, whose promise holds.
     ensures comes { Comes (map string_bytes words.now) (outside (K.files shelf.old) (K.faults shelf.old) (O.contents out.old) (O.faults out.old) (O.empty_takes out.old) (D.told disk)) (outside (K.files shelf.new) (K.faults shelf.new) (O.contents out.new) (O.faults out.new) (O.empty_takes out.new) (D.told result.disk)) result.status result.history.items }
     // The promise of whatever command the words say holds.
@@ -301,4 +294,43 @@ pub fn run<R: Threads + Wait + Sync, K: Shelf, O: Sink, D: Disk, G: Gate>(
         disk,
         gate,
     )
+}
+
+/// Does what the words say.
+pub fn run<R: Threads + Wait + Sync, K: Shelf, O: Sink, D: Disk, G: Gate>(
+    rt: &R,
+    alloc: Global,
+    words: &[String],
+    shelf: &mut K,
+    out: &mut O,
+    disk: D,
+    gate: &G,
+) -> Ended<D>
+    // The words are refused, or they say a command, whose promise holds.
+    ensures comes { Comes (map string_bytes words.now) (outside (K.files shelf.old) (K.faults shelf.old) (O.contents out.old) (O.faults out.old) (O.empty_takes out.old) (D.told disk)) (outside (K.files shelf.new) (K.faults shelf.new) (O.contents out.new) (O.faults out.new) (O.empty_takes out.new) (D.told result.disk)) result.status result.history.items }
+    // The promise of whatever command the words say holds.
+    ensures promise { (command : Command) → Says (map string_bytes words.now) command → Promises command (outside (K.files shelf.old) (K.faults shelf.old) (O.contents out.old) (O.faults out.old) (O.empty_takes out.old) (D.told disk)) (outside (K.files shelf.new) (K.faults shelf.new) (O.contents out.new) (O.faults out.new) (O.empty_takes out.new) (D.told result.disk)) result.status result.history.items }
+    // Usage comes exactly where the words are refused.
+    ensures usage { IsRefused (map string_bytes words.now) → result.status ≡ Status.Usage }
+    ensures refused { result.status ≡ Status.Usage → IsRefused (map string_bytes words.now) }
+    // What stands after any status: the front of the text that the sink took, and the files, but for a conversion, whose promise says what becomes of them.
+    ensures prefix { IfSome (O.contents out.old) (λ had. (n : ℕ) × (O.contents out.new ≡ Some (had ++ take n (text_of result.history.items)))) }
+    ensures files { IsNoConversion (map string_bytes words.now) → K.files shelf.new ≡ K.files shelf.old }
+    // A status that is decided before the first call leaves no history and prints nothing; one that is decided before the disk is touched leaves the disk.
+    ensures silent { IsSilent result.status → (result.history.items ≡ []) × (O.contents out.new ≡ O.contents out.old) }
+    ensures early { IsEarly result.status → result.disk ≡ disk }
+    // A conversion leaves the disk.
+    ensures apart { (way : WayValue) (source target : List ℕ) → IsConversion way (map string_bytes words.now) source target → result.disk ≡ disk }
+    // The disk keeps its size, and its counts never fall.
+    ensures disk { GoesOn (D.told disk) (D.told result.disk) }
+{
+    let Some(asked) = conversion_words(words) else {
+        return run_or_format(rt, alloc, words, shelf, out, disk, gate);
+    };
+    let status = convert(alloc, &asked, shelf);
+    Ended {
+        status,
+        disk,
+        history: Vec::new(alloc),
+    }
 }

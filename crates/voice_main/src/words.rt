@@ -1,9 +1,12 @@
 //! The words of the command line.
 
-ghost use Rattle.std.specs.Prelude.{◌≡◌, [], ◌∷◌, length, MatchOption, map, string_bytes, true, false};
+ghost use Rattle.std.specs.Prelude.{ℕ, List, ◌≡◌, [], ◌∷◌, length, MatchOption, map, string_bytes, true, false};
 ghost use Rattle.script_lang.specs.Forms.{is_file};
-ghost use Rattle.voice_main.specs.Words.{Says, run_command, IsNoRun};
+ghost use Rattle.voice_main.specs.Conversions.{way_word};
+ghost use Rattle.voice_main.specs.Words.{Says, run_command, IsNoRun, IsConversion, IsNoConversion};
+ghost use Rattle.voice_main.specs.declared.convert.Way.{Way as WayValue};
 
+use crate::convert::{Conversion, Way};
 use script_lang::is_file;
 use voice_units::Name;
 
@@ -93,4 +96,58 @@ pub fn run_words(words: &[String]) -> Option<RunWords>
         return None;
     };
     run_serial(verb.as_bytes(), name.as_bytes())
+}
+
+// The way of that word.
+fn way_of(verb: &[u8]) -> Option<Way>
+    ensures { MatchOption result ((way : WayValue) → verb.now ≡ way_word way → ⊥) (λ way. verb.now ≡ way_word way) }
+{
+    if verb == b"import".as_slice() {
+        return Some(Way::Import);
+    }
+    if verb == b"export".as_slice() {
+        return Some(Way::Export);
+    }
+    None
+}
+
+// The words `import AU FILE` or `export FILE AU`.
+fn conversion(verb: &[u8], source: &[u8], target: &[u8]) -> Option<Conversion>
+    ensures { MatchOption result (IsNoConversion (verb.now ∷ source.now ∷ target.now ∷ [])) (λ c. IsConversion c.way (verb.now ∷ source.now ∷ target.now ∷ []) c.source c.target) }
+{
+    let Some(way) = way_of(verb) else {
+        return None;
+    };
+    let Some(source) = file_name(source) else {
+        return None;
+    };
+    let Some(target) = file_name(target) else {
+        return None;
+    };
+    Some(Conversion {
+        way,
+        source,
+        target,
+    })
+}
+
+/// The conversion that the words ask for; `None` exactly for words that ask for none.
+pub fn conversion_words(words: &[String]) -> Option<Conversion>
+    ensures { MatchOption result (IsNoConversion (map string_bytes words.now)) (λ c. IsConversion c.way (map string_bytes words.now) c.source c.target) }
+{
+    let [verb, source, target] = words else {
+        return None;
+    };
+    conversion(verb.as_bytes(), source.as_bytes(), target.as_bytes())
+}
+
+/// Whether the words ask for a conversion, which touches no disk.
+pub fn is_conversion(words: &[String]) -> bool
+    ensures yes { result ≡ true → (way : WayValue) × (source : List ℕ) × (target : List ℕ) × IsConversion way (map string_bytes words.now) source target }
+    ensures no { result ≡ false → IsNoConversion (map string_bytes words.now) }
+{
+    match conversion_words(words) {
+        Some(_) => true,
+        None => false,
+    }
 }

@@ -1,0 +1,37 @@
+-- The words of a conversion.
+use Rattle.std.proofs.Common.{◌≡◌, ℕ, true, false, List, [], ◌∷◌, length, map, refl, sym, ap, ◌∙◌}
+use Rattle.std.proofs.lemmas.Bool.{false≢true}
+use Rattle.script_lang.specs.Forms.{is_file}
+use Rattle.voice_main.specs.declared.convert.Way.{Way}
+use Rattle.voice_main.specs.Conversions.{way_word}
+use Rattle.voice_main.specs.Words.{IsConversion, IsNoConversion}
+
+-- what three words ask for
+parts : (way : Way) (verb source target s t : List ℕ) → IsConversion way (verb ∷ source ∷ target ∷ []) s t → (verb ≡ way_word way) × (source ≡ s) × (target ≡ t)
+parts way verb source target s t is =
+    let h : verb ∷ source ∷ target ∷ [] ≡ way_word way ∷ s ∷ t ∷ [] = is.form in
+    let a : verb ≡ way_word way = cc in let b : source ≡ s = cc in let c : target ≡ t = cc in (a, b, c)
+
+pub no_way : (verb source target : List ℕ) → ((way : Way) → verb ≡ way_word way → ⊥) → IsNoConversion (verb ∷ source ∷ target ∷ [])
+no_way verb source target none way s t is = none way (parts way verb source target s t is).0
+
+pub no_source : (verb source target : List ℕ) → is_file source ≡ false → IsNoConversion (verb ∷ source ∷ target ∷ [])
+no_source verb source target none way s t is = false≢true (sym none ∙ ap is_file (parts way verb source target s t is).1 ∙ is.source_file)
+
+pub no_target : (verb source target : List ℕ) → is_file target ≡ false → IsNoConversion (verb ∷ source ∷ target ∷ [])
+no_target verb source target none way s t is = false≢true (sym none ∙ ap is_file (parts way verb source target s t is).2 ∙ is.target_file)
+
+pub conversion_of : (way : Way) (verb source target s t : List ℕ) → verb ≡ way_word way → is_file source ≡ true → s ≡ source → is_file target ≡ true → t ≡ target → IsConversion way (verb ∷ source ∷ target ∷ []) s t
+conversion_of way verb source target s t e f same g alike = record {
+  form = ap (λ v. v ∷ source ∷ target ∷ []) e ∙ ap (λ n. way_word way ∷ n ∷ target ∷ []) (sym same) ∙ ap (λ n. way_word way ∷ s ∷ n ∷ []) (sym alike);
+  source_file = ap is_file same ∙ f;
+  target_file = ap is_file alike ∙ g;
+}
+
+-- fewer or more words than three
+pub not_three : {X : Type 0} (f : X → List ℕ) (xs : List X) → ¬ (length xs ≡ 3) → IsNoConversion (map f xs)
+not_three f [] other way s t is = let h : [] ≡ way_word way ∷ s ∷ t ∷ [] = is.form in cc
+not_three f (a ∷ []) other way s t is = let h : f a ∷ [] ≡ way_word way ∷ s ∷ t ∷ [] = is.form in cc
+not_three f (a ∷ b ∷ []) other way s t is = let h : f a ∷ f b ∷ [] ≡ way_word way ∷ s ∷ t ∷ [] = is.form in cc
+not_three f (a ∷ b ∷ c ∷ []) other way s t is = other refl
+not_three f (a ∷ b ∷ c ∷ d ∷ xs) other way s t is = let h : f a ∷ f b ∷ f c ∷ f d ∷ map f xs ≡ way_word way ∷ s ∷ t ∷ [] = is.form in cc
