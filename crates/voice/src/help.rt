@@ -9,12 +9,10 @@ voice: a voice manager. It runs a script of calls, and prints one line for each.
 
   voice run NAME     runs the script NAME of the current folder, line by line; with
                      --threads behind it, each caller's lines on a thread of its own
-  voice format       formats the disk anew, and forgets what it has; options with a
-                     number behind each: --block 4096, --blocks 15000,
-                     --area 1048576, --grace 86400, --lanes 8 (the defaults);
-                     --held, --until, --listed N: another grace for that class
-  voice import AU FILE  writes the samples of the AU file AU into FILE
-  voice export FILE AU  writes an AU file of FILE's samples into AU
+  voice format       formats the disk anew, and forgets what it has; options, each with a
+                     number: --block 4096, --blocks 15000, --area 1048576, --grace 86400,
+                     --lanes 8 (the defaults); --held, --until, --listed: of that class
+  voice import AU FILE, voice export FILE AU: samples out of an AU file, or into one
   voice --help       prints this; voice --version prints the version
 
 The disk is the file voice.disk of the current folder; where there is none it is
@@ -30,5 +28,5 @@ ROPE a variable or number, CLASS held, until or listed; docs/SCRIPT.md tells the
 
 Exit status: 0 done, 2 bad words or shape, 3 a line of the script is refused, 4 a file
 is absent, 5 the folder failed, 6 the output failed, 7 the disk is damaged, 8 the disk
-failed, 9 no memory, 10 a file is no AU file of the profile. The cause is printed on standard error.
+failed, 9 no memory, 10 no AU file of mu-law at 8,000. The cause is on standard error.
 ";
