@@ -10,16 +10,17 @@ use Rattle.voice_model.specs.Replay.{Placed, Rebuilt, used_pairs}
 use Rattle.voice_model.specs.Valid.{Every}
 use Rattle.voice_model.proofs.KeptByChanges.{every-imply}
 use Rattle.voice_model.proofs.Order.{every-both, every-split}
-use Rattle.voice_blocks.specs.Holders.{holder_at, block_of}
+use Rattle.voice_blocks.specs.Holders.{Holders, holder_at, block_of}
 use Rattle.voice_blocks.specs.declared.owner.Owner.{Owner}
 use Rattle.voice_blocks.specs.declared.owner.Owner.TheVariants.{File, Taking}
 use Rattle.voice_blocks.specs.declared.owner.Holder.{Holder}
-use Rattle.rope_table.specs.Table.{uses_at, uses_in, pieces_in, pairs_in, pair_of}
+use Rattle.rope_table.specs.Table.{Table, uses_at, uses_in, pieces_in, pairs_in, pair_of}
 use Rattle.collector.specs.Freed.{freed, goes}
 use Rattle.recovery.specs.declared.parts.Parts.{Parts}
 use Rattle.recovery.specs.Shown.{Shows}
 use Rattle.checkpoint.specs.Blocks.{IsHeld}
 use Rattle.running_tables.specs.Running.{is_wanted, GivesJust, Runs}
+use Rattle.next_ropes.specs.Addresses.{KeepsAddresses}
 use Rattle.running_tables.proofs.Codes.{either_way, or_left, or_right, has_append}
 use Rattle.running_tables.proofs.Passages.{pairs_after}
 use Rattle.running_tables.proofs.Recounted.{used_once, once_used, one_has}
@@ -46,6 +47,10 @@ was_held has uses (Some g) h e = by (goes has uses g.owner g.index) refl
         let same : Some g ≡ Some h = sym (ap (λ t. cond t None (Some g)) k) ∙ e in
         let one : g ≡ h = cc in
         (same, subst (λ (x : Holder). goes has uses x.owner x.index ≡ false) one k)
+
+-- each address that is given out after passages went was given to the same block before
+pub let_go_keeps : {old new : Table} {passages : List (List Piece)} (held left : Holders) → LetsGo old new held left passages → KeepsAddresses held left
+let_go_keeps {old} {new} {passages} held left lets a h e = (was_held (passages_have old.block passages) (uses_at new) (holder_at held a) h (sym (lets.holders.each a) ∙ e)).0
 
 -- what does not go stays
 stays_held : (has : BlockPair → Bool) (uses : BlockPair → ℕ) (o : Option Holder) (h : Holder) → o ≡ Some h → goes has uses h.owner h.index ≡ false → freed has uses o ≡ Some h

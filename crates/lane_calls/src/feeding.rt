@@ -11,6 +11,7 @@ ghost use Rattle.voice_model.specs.Replay.{Rebuilt};
 ghost use Rattle.voice_model.specs.declared.calls.Call.TheVariants as calls;
 ghost use Rattle.voice_outside.specs.Counters.{HasRisen};
 ghost use Rattle.running_tables.specs.Running.{Runs};
+ghost use Rattle.next_ropes.specs.Addresses.{KeepsAddresses};
 ghost use Rattle.frame_pool.specs.Pool.{block_of, spent};
 ghost use Rattle.play_queue.specs.Queued.{lane_of};
 ghost use Rattle.playing.specs.Frames.{HasRead, HoldsBytes, AreOnDisk, missing};
@@ -61,6 +62,7 @@ fn tell<L: Ledger>(
     requires { MayEnd turned parts.old.ropes }
     ensures told { IsTold turned parts.old lanes.old parts.new lanes.new result }
     ensures spare { parts.new.blocks.spare ≡ parts.old.blocks.spare }
+    ensures addresses { KeepsAddresses parts.old.blocks.holders parts.new.blocks.holders }
     ensures bytes { (bytes : ℕ → ℕ → List ℕ) → HoldsBytes bytes lanes.old.frames → HoldsBytes bytes lanes.new.frames }
 {
     match turned {
@@ -101,6 +103,7 @@ pub fn feed<D: Disk, L: Ledger>(
     ensures err { OnErr result ((parts.new ≡ parts.old) × (lanes.new.queues ≡ lanes.old.queues)) }
     ensures stays { (fill : Spot → Tagged) (pledged : List (List Piece)) (takings : List ℕ) (made : ℕ) (b : Rebuilt) (s : State) → Stands fill pledged takings parts.old lanes.old made b s → OnErr result (Stands fill pledged takings parts.new lanes.new made b s) }
     ensures spare { parts.new.blocks.spare ≡ parts.old.blocks.spare }
+    ensures addresses { KeepsAddresses parts.old.blocks.holders parts.new.blocks.holders }
 {
     if let Some(why) = refused(lanes, shape, lane, false) {
         return Ok(Fed::Refused(why));
@@ -140,6 +143,7 @@ pub fn serve<D: Disk, L: Ledger>(
     ensures err { OnErr result ((parts.new ≡ parts.old) × (lanes.new.queues ≡ lanes.old.queues) × (lease.new ≡ (if lease.old.taken then lease.old else spent lease.old))) }
     ensures stays { (fill : Spot → Tagged) (pledged : List (List Piece)) (takings : List ℕ) (made : ℕ) (b : Rebuilt) (s : State) → Stands fill pledged takings parts.old lanes.old made b s → OnErr result (Stands fill pledged takings parts.new lanes.new made b s) }
     ensures spare { parts.new.blocks.spare ≡ parts.old.blocks.spare }
+    ensures addresses { KeepsAddresses parts.old.blocks.holders parts.new.blocks.holders }
 {
     if let Some(why) = refused(lanes, shape, lane, true) {
         return Ok(Fed::Refused(why));

@@ -8,6 +8,7 @@ ghost use Rattle.voice_model.specs.State.{State};
 ghost use Rattle.voice_model.specs.Replay.{Rebuilt};
 ghost use Rattle.voice_model.specs.declared.calls.Call.TheVariants as calls;
 ghost use Rattle.rope_table.specs.Table.{Counts};
+ghost use Rattle.next_ropes.specs.Addresses.{KeepsAddresses};
 ghost use Rattle.playing.specs.Frames.{HoldsBytes};
 ghost use Rattle.playing.specs.Held.{held_by, held_in, stretch_count};
 ghost use Rattle.play_queue.specs.Queued.{lane_of};
@@ -33,6 +34,7 @@ pub fn stop<L: Ledger>(
     ensures stopped { (fill : Spot → Tagged) (pledged : List (List Piece)) (takings : List ℕ) (made : ℕ) (b : Rebuilt) (s : State) (tapes : List (List ℕ)) → Stands fill pledged takings parts.old lanes.old made b s → ArePledged b pledged → IsStopped fill pledged takings b s tapes (calls.Stop lane) made parts.old lanes.old parts.new lanes.new result }
     ensures bytes { (bytes : ℕ → ℕ → List ℕ) → HoldsBytes bytes lanes.old.frames → HoldsBytes bytes lanes.new.frames }
     ensures spare { parts.new.blocks.spare ≡ parts.old.blocks.spare }
+    ensures addresses { KeepsAddresses parts.old.blocks.holders parts.new.blocks.holders }
     ensures interests { parts.new.interests ≡ parts.old.interests }
     ensures moment { parts.new.moment ≡ parts.old.moment }
     ensures next { parts.new.next ≡ parts.old.next }

@@ -1,5 +1,5 @@
 -- Changes that bring no rope are done, on the tables or on a copy of them.
-use Rattle.std.proofs.Common.{◌≡◌, ℕ, ◌≤◌, true, false, List, [], length, refl, sym, ◌∙◌, ap, subst}
+use Rattle.std.proofs.Common.{◌≡◌, ℕ, ◌≤◌, true, false, List, [], length, Option, Some, None, refl, sym, ◌∙◌, ap, subst}
 use Rattle.voice_units.specs.declared.pieces.Piece.{Piece}
 use Rattle.voice_units.specs.Spots.{Spot}
 use Rattle.voice_model.specs.State.{Durable}
@@ -8,9 +8,12 @@ use Rattle.voice_model.specs.Replay.{Rebuilt, brings, is_legal, acted}
 use Rattle.voice_model.specs.Spelling.{keeps_grammar}
 use Rattle.voice_model.specs.declared.changes.Change.{Change}
 use Rattle.voice_model.specs.declared.changes.Change.TheVariants as changes
+use Rattle.voice_blocks.specs.Holders.{holder_at}
+use Rattle.voice_blocks.specs.declared.owner.Holder.{Holder}
 use Rattle.interest_table.specs.Table.{Table}
 use Rattle.recovery.specs.declared.parts.Parts.{Parts}
 use Rattle.recovery.specs.Shown.{Shows}
+use Rattle.recovery.specs.Placing.{in_use, is_unused}
 use Rattle.ready_changes.specs.Ready.{Does, IsReady, after, AllInUse, FreesUnused, frees}
 use Rattle.ready_changes.specs.declared.Act.{Act}
 use Rattle.ready_changes.specs.declared.Act.TheVariants as acts
@@ -20,6 +23,16 @@ use Rattle.running_tables.specs.Running.{Runs}
 use Rattle.running_tables.specs.Laws.{keeps_ropes}
 use Rattle.running_tables.proofs.Landed.{altered}
 use Rattle.running_tables.proofs.Swept.{all_in_use, swept}
+use Rattle.next_ropes.specs.Addresses.{KeepsAddresses}
+use Rattle.next_ropes.proofs.HandedOut.{stayed}
+
+-- of the addresses that were given out only those go whose blocks nothing uses
+pub freed_keeps : (old new : Parts) → FreesUnused old new → KeepsAddresses old.blocks.holders new.blocks.holders
+freed_keeps old new gone a h e = used (holder_at old.blocks.holders a) (sym (gone a) ∙ e)
+  where
+    used : (o : Option Holder) → in_use new.ropes o ≡ Some h → o ≡ Some h
+    used None k = cc
+    used (Some g) k = stayed (is_unused new.ropes g.owner g.index) (Some g) h k
 
 -- what is ready with room for rows is ready with other room for one
 pub with_room : (spare other : ℕ) (d : Durable Spot) (ready : ReadyChange) (c : Change) → 1 ≤ other → IsReady spare d ready c → IsReady other d ready c

@@ -7,6 +7,7 @@ ghost use Rattle.voice_model.specs.Replay.{Rebuilt, acted};
 ghost use Rattle.voice_model.specs.Spelling.{spelling};
 ghost use Rattle.recovery.specs.declared.Parts.{Parts};
 ghost use Rattle.running_tables.specs.Running.{Runs};
+ghost use Rattle.next_ropes.specs.Addresses.{KeepsAddresses};
 ghost use Rattle.next_changes.specs.Next.{IsNext, payload_of};
 
 use crate::NextChange;
@@ -29,7 +30,8 @@ impl NextChange {
 /// The change is done. It takes no memory.
 pub fn perform(parts: &mut Parts, shape: &Shape, next: NextChange)
     requires { (held : List (List Piece)) × (takings : List ℕ) × (b : Rebuilt) × (c : Change) × IsNext held takings parts.old b next c }
-    ensures { (held : List (List Piece)) (takings : List ℕ) (b : Rebuilt) (c : Change) → IsNext held takings parts.old b next c → b.shape ≡ shape.now → Runs held [] takings parts.new (acted b c) }
+    ensures runs { (held : List (List Piece)) (takings : List ℕ) (b : Rebuilt) (c : Change) → IsNext held takings parts.old b next c → b.shape ≡ shape.now → Runs held [] takings parts.new (acted b c) }
+    ensures kept { (held : List (List Piece)) (takings : List ℕ) (b : Rebuilt) (c : Change) → IsNext held takings parts.old b next c → b.shape ≡ shape.now → KeepsAddresses parts.old.blocks.holders parts.new.blocks.holders }
 {
     match next {
         NextChange::Rope(rope) => next_ropes::perform(parts, shape, rope),
@@ -39,7 +41,8 @@ pub fn perform(parts: &mut Parts, shape: &Shape, next: NextChange)
 
 /// The change is not done, and the blocks of a rope are free again. It takes no memory.
 pub fn give_back(parts: &mut Parts, next: NextChange)
-    ensures { (held : List (List Piece)) (takings : List ℕ) (b : Rebuilt) (c : Change) → IsNext held takings parts.old b next c → Runs held [] takings parts.new b }
+    ensures runs { (held : List (List Piece)) (takings : List ℕ) (b : Rebuilt) (c : Change) → IsNext held takings parts.old b next c → Runs held [] takings parts.new b }
+    ensures kept { KeepsAddresses parts.old.blocks.holders parts.new.blocks.holders }
 {
     match next {
         NextChange::Rope(rope) => next_ropes::give_back(parts, rope),

@@ -15,7 +15,7 @@ use Rattle.voice_blocks.specs.declared.owner.Owner.TheVariants.{File}
 use Rattle.recovery.specs.declared.parts.Parts.{Parts}
 use Rattle.recovery.specs.Shown.{Shows}
 use Rattle.running_tables.specs.Running.{Runs}
-use Rattle.running_tables.specs.Laws.{HaveBlocks, IsNewFile}
+use Rattle.running_tables.specs.Laws.{HaveBlocks}
 use Rattle.running_tables.proofs.Dropped.{given_back as tables_given_back}
 use Rattle.running_tables.proofs.Taken.{used_pledged, used_unpledged, first_blocks}
 use Rattle.next_ropes.specs.declared.NextRope.{NextRope}

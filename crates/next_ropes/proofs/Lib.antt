@@ -3,3 +3,4 @@ pub mod Dropped
 pub mod TakenLowest
 pub mod Spelled
 pub mod Readied
+pub mod HandedOut

@@ -1,3 +1,4 @@
 pub mod Ready
 pub mod Lowest
 pub mod Copies
+pub mod Addresses

@@ -7,6 +7,7 @@ ghost use Rattle.voice_model.specs.Replay.{Rebuilt, acted};
 ghost use Rattle.running_tables.specs.Running.{Runs};
 ghost use Rattle.next_ropes.specs.Ready.{IsReady};
 ghost use Rattle.next_ropes.specs.Copies.{IsAlike};
+ghost use Rattle.next_ropes.specs.Addresses.{KeepsAddresses};
 
 use crate::NextRope;
 use recovery::Parts;
@@ -17,14 +18,16 @@ use voice_units::{NoMemory, Shape};
 /// The rope comes. It takes no memory.
 pub fn perform(parts: &mut Parts, shape: &Shape, next: NextRope)
     requires { (held : List (List Piece)) × (takings : List ℕ) × (b : Rebuilt) × (c : Change) × IsReady held takings parts.old b next c }
-    ensures { (held : List (List Piece)) (takings : List ℕ) (b : Rebuilt) (c : Change) → IsReady held takings parts.old b next c → b.shape ≡ shape.now → Runs held [] takings parts.new (acted b c) }
+    ensures runs { (held : List (List Piece)) (takings : List ℕ) (b : Rebuilt) (c : Change) → IsReady held takings parts.old b next c → b.shape ≡ shape.now → Runs held [] takings parts.new (acted b c) }
+    ensures blocks { parts.new.blocks ≡ parts.old.blocks }
 {
     parts.add_rope(next.id, next.pieces, shape.graces.common);
 }
 
 /// The rope does not come, and its blocks are free again. It takes no memory.
 pub fn give_back(parts: &mut Parts, next: NextRope)
-    ensures { (held : List (List Piece)) (takings : List ℕ) (b : Rebuilt) (c : Change) → IsReady held takings parts.old b next c → Runs held [] takings parts.new b }
+    ensures runs { (held : List (List Piece)) (takings : List ℕ) (b : Rebuilt) (c : Change) → IsReady held takings parts.old b next c → Runs held [] takings parts.new b }
+    ensures kept { KeepsAddresses parts.old.blocks.holders parts.new.blocks.holders }
 {
     parts.blocks.drop_owner(Owner::File(next.id));
 }

@@ -26,6 +26,7 @@ pub fn ready_edit(alloc: Global, parts: &mut Parts, pieces: Pieces) -> Result<Ne
     ensures ready { (held : List (List Piece)) (takings : List ℕ) (b : Rebuilt) → Runs held [] takings parts.old b → length held ≤ most_held → IfOk result (λ next. IsReady held takings parts.new b next (changes.Edited b.next pieces)) }
     ensures unheld { IfOk result (λ next. next.addresses.items ≡ []) }
     ensures same { (held : List (List Piece)) (takings : List ℕ) (b : Rebuilt) → Runs held [] takings parts.old b → Runs held [] takings parts.new b }
+    ensures holders { parts.new.blocks.holders ≡ parts.old.blocks.holders }
 {
     let id = RopeId(parts.next);
     let _length = pieces.length();

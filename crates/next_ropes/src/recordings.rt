@@ -1,6 +1,6 @@
 //! Recordings, whose blocks are held before they come.
 
-ghost use Rattle.std.specs.Prelude.{◌≡◌, ℕ, ◌+◌, ◌<◌, ◌≤◌, ◌^◌, List, [], true, length, IfOk, OnErr};
+ghost use Rattle.std.specs.Prelude.{◌≡◌, ℕ, ◌+◌, ◌<◌, ◌≤◌, ◌^◌, List, [], true, length, IfOk, OnOk, OnErr};
 ghost use Rattle.voice_units.specs.declared.Piece.{Piece as PieceValue};
 ghost use Rattle.std.specs.List.{list_all};
 ghost use Rattle.voice_units.specs.Spots.{spots_from, pieces_of, samples_in};
@@ -11,6 +11,7 @@ ghost use Rattle.voice_model.specs.Replay.{Rebuilt, all_differ, is_free_address}
 ghost use Rattle.running_tables.specs.Running.{Runs, AreRunning};
 ghost use Rattle.next_ropes.specs.Ready.{IsReady, most_held, next_change, recorded_change};
 ghost use Rattle.next_ropes.specs.Lowest.{AreAddresses, lowest_open};
+ghost use Rattle.next_ropes.specs.Addresses.{KeepsAddresses, HandsOut};
 
 use crate::NextRope;
 use crate::payloads::recording_payload;
@@ -91,6 +92,9 @@ pub fn ready_recording(
     ensures recorded { IfOk result (λ next. next.recorded ≡ true) }
     ensures lowest { IfOk result (λ next. next.addresses.items ≡ lowest_open (blocks_for shape.now.block len) parts.old.blocks.holders) }
     ensures err { (held : List (List PieceValue)) (takings : List ℕ) (b : Rebuilt) → Runs held [] takings parts.old b → OnErr result (Runs held [] takings parts.new b) }
+    ensures id { IfOk result (λ next. next.id ≡ parts.old.next) }
+    ensures own { OnOk result (HandsOut parts.old.next parts.old.blocks.holders parts.new.blocks.holders) }
+    ensures none { OnErr result (KeepsAddresses parts.old.blocks.holders parts.new.blocks.holders) }
 {
     let id = RopeId(parts.next);
     let pieces = Pieces::one(

@@ -1,4 +1,5 @@
 -- A change of rows, of the moment or a sweep: what it takes, and that it goes to the journal as any other.
+use Rattle.voice_blocks.specs.Holders.{BlocksView, holder_at}
 use Rattle.std.proofs.Common.{◌≡◌, ℕ, ◌==◌, inl, Bool, true, false, cond, [], List, length, Some, None, IsTrue, refl, sym, ◌∙◌, ap, subst}
 use Rattle.voice_units.specs.declared.pieces.Piece.{Piece}
 use Rattle.voice_units.specs.Spots.{Spot}
@@ -140,7 +141,7 @@ module _ (first : State) (t0 : ℕ) (disk : Told) (s : Inside) (call : Call) (re
 
   pub trying_change : Foundations → (IsTrue disk.honest → IsHonest disk) → (caller : ℕ) → is_journal_full last effect ≡ false → Trying first t0 disk s b (Other ready) change effect caller call reply
   trying_change laws honest caller free =
-      let up = upright_by first t0 disk s h.stood h.sure s.parts in
+      let up = upright_by first t0 disk s h.stood h.sure s.parts (λ a holder held. held) in
       record {
         fill = h.stood.fill;
         upright = up;
@@ -175,7 +176,7 @@ module _ (first : State) (t0 : ℕ) (disk : Told) (s : Inside) (stood : Stood fi
   pub asked_on : (parts : Parts) → Shows stood.held parts stood.b.kept → parts.form ≡ s.parts.form → parts.blocks ≡ s.parts.blocks → Runs stood.held [] stood.takings parts stood.b
   asked_on parts shows form blocks = reshown stood.held [] stood.takings s.parts parts stood.b (is_sure first t0 disk s stood none).tables shows form (ap (λ x. x.holders) blocks)
 
-module _ (first : State) (t0 : ℕ) (disk : Told) (s : Inside) (stood : Stood first t0 disk s) (none : s.doubt ≡ None) (parts : Parts) (shows : Runs stood.held [] stood.takings parts stood.b) where
+module _ (first : State) (t0 : ℕ) (disk : Told) (s : Inside) (stood : Stood first t0 disk s) (none : s.doubt ≡ None) (parts : Parts) (shows : Runs stood.held [] stood.takings parts stood.b) (same_blocks : parts.blocks ≡ s.parts.blocks) where
   abbrev then : Inside
   then = record s { parts = parts }
 
@@ -193,7 +194,7 @@ module _ (first : State) (t0 : ℕ) (disk : Told) (s : Inside) (stood : Stood fi
     held = stood.held;
     takings = stood.takings;
     holding = stood.holding;
-    upright = upright_by first t0 disk s stood none parts;
+    upright = upright_by first t0 disk s stood none parts (λ a holder held. ap (λ (x : BlocksView). holder_at x.holders a) (sym same_blocks) ∙ held);
     tables = inl (record { sure = none; in_journal = was.in_journal; in_state = was.in_state; tables = shows; same = refl });
     size = stood.size;
   }

@@ -28,6 +28,8 @@ use Rattle.recovery.specs.declared.parts.Parts.{Parts}
 use Rattle.crash_laws.specs.Standing.{IsLater}
 use Rattle.crash_laws.specs.Calls.{Does, Undoes, Doubts, StaysWithin, IsChange, KeepsDurable, IsCommitted, IsInDoubt}
 use Rattle.crash_laws.specs.Laws.{AppendsCarry, FailuresCarry}
+use Rattle.voice_journal.specs.Readings.{SameElsewhere}
+use Rattle.next_ropes.specs.Addresses.{KeepsAddresses}
 use Rattle.crash_laws.proofs.Commits.{acted_form}
 use Rattle.voice_store.specs.declared.inside.Inside.{Inside}
 use Rattle.voice_store.specs.declared.inside.Doubted.{Doubted}
@@ -88,10 +90,11 @@ module _ (first : State) (t0 : ℕ) (old new : Told) (s s' : Inside) (b : Rebuil
       record { kept = ap (λ (t : State). t.kept) is; doubt = ap (λ (t : State). t.doubt) is; form = ap (λ (t : State). t.form) is; left = ap (λ (t : State). t.left) is }
 
   pub failed_stood : s'.tapes ≡ s.tapes → s'.history.items ≡ s.history.items ++ entry_failed ∷ []
+      → (IsTrue old.honest → SameElsewhere s.journal.shape old.bytes new.bytes) → KeepsAddresses s.parts.blocks.holders s'.parts.blocks.holders
       → s'.journal.shape ≡ s.journal.shape → s'.journal.seat ≡ s.journal.seat → s'.journal.doubt ≡ None → s'.doubt ≡ None → Runs tr.held [] tr.takings s'.parts b
       → FailuresCarry old new → (IsTrue old.honest → Undoes s.journal s'.journal old new) → Stood first t0 new s'
-  failed_stood tapes items shape seat sure none tables carry undoes =
-      stood_failed first t0 old new s s' b next c effect caller call reply tr later sizes alike tapes items shape seat sure none tables
+  failed_stood tapes items elsewhere keeps shape seat sure none tables carry undoes =
+      stood_failed first t0 old new s s' b next c effect caller call reply tr later sizes alike tapes items elsewhere keeps shape seat sure none tables
       (λ h. let h' = honest h in
       carry.before first (tapes_of s) t0 s.journal s'.journal b b s.history.items entry_failed (moments h') (tr.upright.held h') tr.may.sure (undoes h') refl stays_durable)
 
@@ -133,12 +136,13 @@ module _ (first : State) (t0 : ℕ) (old new : Told) (s s' : Inside) (b : Rebuil
         record { kept = ap (λ (t : State). t.kept) is; doubt = ap (λ (t : State). t.doubt) is ∙ tr.may.sure; form = ap (λ (t : State). t.form) is }
 
     pub appended_stood : s'.tapes ≡ s.tapes → s'.history.items ≡ s.history.items ++ entry_done ∷ []
+        → (IsTrue old.honest → SameElsewhere s.journal.shape old.bytes new.bytes) → KeepsAddresses s.parts.blocks.holders s'.parts.blocks.holders
         → s'.journal.shape ≡ s.journal.shape → s'.journal.seat ≡ landed_seat s.journal.seat (Record (length payload)) → s'.journal.doubt ≡ None → s'.doubt ≡ None
         → Runs tr.held [] tr.takings s'.parts (acted b c)
         → AppendsCarry old new → (IsTrue old.honest → Does (λ r. with_payload r payload) s.journal s'.journal old new × StaysWithin (λ r. with_payload r payload) s.journal old new)
         → Stood first t0 new s'
-    appended_stood tapes items shape seat sure none tables carry does =
-        stood_done first t0 old new s s' b next c effect caller call reply tr later sizes alike (acted b c) (Record (length payload)) tapes items shape seat sure none tables fills_then seated_then
+    appended_stood tapes items elsewhere keeps shape seat sure none tables carry does =
+        stood_done first t0 old new s s' b next c effect caller call reply tr later sizes alike (acted b c) (Record (length payload)) tapes items elsewhere keeps shape seat sure none tables fills_then seated_then
         (λ h. let h' = honest h in let d = does h' in
         carry.ok first (tapes_of s) t0 s.journal s'.journal b b s.history.items effect payload c entry_done (moments h') (tr.upright.held h') tr.may.sure (change h') d.0 d.1 refl committed_then)
 
@@ -153,11 +157,12 @@ module _ (first : State) (t0 : ℕ) (old new : Told) (s s' : Inside) (b : Rebuil
 
     pub append_waits : (doubted : Doubted) → doubted.next ≡ next → doubted.form ≡ s.parts.form → s'.tapes ≡ s.tapes
         → s'.history.items ≡ s.history.items ++ entry_waits ∷ []
+        → (IsTrue old.honest → SameElsewhere s.journal.shape old.bytes new.bytes)
         → s'.journal.shape ≡ s.journal.shape → s'.journal.seat ≡ s.journal.seat → s'.journal.doubt ≡ Some (Record (length payload)) → s'.doubt ≡ Some doubted → s'.parts ≡ s.parts
         → AppendsCarry old new → (IsTrue old.honest → Doubts (λ r. with_payload r payload) s.journal s'.journal old new × StaysWithin (λ r. with_payload r payload) s.journal old new)
         → Stood first t0 new s'
-    append_waits doubted same form tapes items shape seat unsure some parts carry doubts =
-        stood_waits first t0 old new s s' b next c effect caller call reply tr later sizes alike (acted b c) (Record (length payload)) doubted same tapes items shape seat unsure some parts
+    append_waits doubted same form tapes items elsewhere shape seat unsure some parts carry doubts =
+        stood_waits first t0 old new s s' b next c effect caller call reply tr later sizes alike (acted b c) (Record (length payload)) doubted same tapes items elsewhere shape seat unsure some parts
         (λ p shows. subst (λ (f : ℕ). Runs tr.held [] tr.takings (in_form f p) (acted b c)) (sym form) (in_form_then p shows))
         fills_then
         seated_then

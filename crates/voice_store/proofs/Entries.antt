@@ -95,6 +95,7 @@ module _ (first : State) (t0 : ℕ) (disk : Told) (s : Inside) (history : Vec En
           seated = subst (λ (t : State). IsSeated s.journal t) (sym more.last) stood.upright.seated;
           acks = more.acks;
           held = more.held;
+          bytes = stood.upright.bytes;
         };
         tables = tables_noted stood.tables more.last;
         size = stood.size;

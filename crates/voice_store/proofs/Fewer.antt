@@ -1,5 +1,6 @@
 -- How long a recording is that only the journal may refuse, and how few device calls its samples take.
-use Rattle.std.proofs.Common.{◌≡◌, ℕ, ◌≤◌, ◌<◌, ◌^◌, List, [], ◌∷◌, length, Option, None, sym, ◌∙◌, subst, arith}
+use Rattle.voice_store.specs.Filled.{IsPadded}
+use Rattle.std.proofs.Common.{◌≡◌, ℕ, ◌*◌, ◌≤◌, ◌<◌, ◌^◌, List, [], ◌∷◌, length, Option, None, sym, ◌∙◌, subst, arith}
 use Rattle.std.specs.Prelude.{nat_lt, slice_index, Result, Ok, Err, OnOk}
 use Rattle.std.proofs.lemmas.Bool.{ltb-false}
 use Rattle.voice_units.specs.Blocks.{blocks_for}
@@ -41,6 +42,16 @@ has_bytes r image shape shape' addresses addresses' bytes bytes' same at is writ
     (λ each. subst (λ (x : Shape). HasBytes image x addresses' bytes') same
     (subst (λ (l : List ℕ). HasBytes image shape l bytes') at
     (subst (λ (l : List ℕ). HasBytes image shape addresses l) is (record { each = each }))))
+    written
+
+-- and zeros stand behind it
+pub is_padded : {T E : Type 0} (r : Result T E) (image : List ℕ) (shape shape' : Shape) (addresses addresses' bytes bytes' : List ℕ) → shape ≡ shape' → addresses ≡ addresses' → bytes ≡ bytes'
+    → OnOk r ((k : ℕ) → length bytes ≤ k → k < length addresses * shape.block → slice_index image (byte_place shape addresses k) ≡ 0) → OnOk r (IsPadded image shape' addresses' (length bytes'))
+is_padded r image shape shape' addresses addresses' bytes bytes' same at is written =
+    on_ok_then r ((k : ℕ) → length bytes ≤ k → k < length addresses * shape.block → slice_index image (byte_place shape addresses k) ≡ 0) (IsPadded image shape' addresses' (length bytes'))
+    (λ each. subst (λ (x : Shape). IsPadded image x addresses' (length bytes')) same
+    (subst (λ (l : List ℕ). IsPadded image shape l (length bytes')) at
+    (subst (λ (l : List ℕ). IsPadded image shape addresses (length l)) is (record { each = each }))))
     written
 
 module _ (first : State) (t0 : ℕ) (disk : Told) (s : Inside) (take : Take) (h : MakesRecording first t0 disk s take) where

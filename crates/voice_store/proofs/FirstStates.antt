@@ -1,4 +1,5 @@
 -- The state as which a disk opens.
+use Rattle.voice_store.proofs.Filled.{opened_filled}
 use Rattle.std.proofs.Common.{◌≡◌, inl, ℕ, zero, suc, ◌+◌, ◌-◌, ◌≤◌, ◌<◌, List, [], ◌∷◌, replicate, Some, None, IsTrue, refl, sym, ◌∙◌, ap, subst, arith}
 use Rattle.std.proofs.lemmas.List.{length-replicate}
 use Rattle.std.specs.Prelude.{slice_get}
@@ -143,8 +144,8 @@ module _ (t0 : ℕ) (bytes : List ℕ) (disk : Told) (s : Inside) (b : Rebuilt) 
   pub stood_first : replayed (nothing_rebuilt s.journal.shape) (records_of ps) ≡ Replayed.All b → Rebuilds s.parts b → s.doubt ≡ None → s.journal.doubt ≡ None
       → 16 ≤ s.journal.seat.gate → s.journal.seat.gate < s.journal.shape.area
       → t0 ≤ disk.calls → extent s.journal.shape ≤ disk.size → (IsTrue disk.honest → IsHeld begin (tapes_of s) t0 s.journal disk b b [])
-      → Stood begin t0 disk s
-  stood_first rebuilds tables none sure from within past size held = record {
+      → (IsTrue disk.honest → disk.bytes ≡ bytes) → Stood begin t0 disk s
+  stood_first rebuilds tables none sure from within past size held same = record {
     fill = filled bytes b;
     b = b;
     after = b;
@@ -162,6 +163,7 @@ module _ (t0 : ℕ) (bytes : List ℕ) (disk : Told) (s : Inside) (b : Rebuilt) 
       });
       acks = subst (λ (l : List Entry). AcksRise t0 l disk.calls) (sym items) past;
       held = λ honest. subst (λ (l : List Entry). IsHeld begin (tapes_of s) t0 s.journal disk b b l) (sym items) (held honest);
+      bytes = λ honest. opened_filled bytes disk.bytes s.journal.shape b s.parts.blocks.holders (shape_rebuilt s.journal.shape ps b rebuilds) (same honest) tables.places tables.placed.once;
     };
     tables = inl (of_last (λ t. IsSure (held_in begin) (takings_in begin) s b b t) (record { sure = none; in_journal = sure; in_state = refl; tables = begin_runs tables; same = refl }));
     size = size;

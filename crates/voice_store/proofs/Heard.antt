@@ -1,4 +1,5 @@
 -- What a rope sounds like on the disk.
+use Rattle.voice_store.proofs.Filled.{stays_same}
 use Rattle.std.proofs.Common.{◌≡◌, ◌⊎◌, inl, inr, ℕ, ◌+◌, ◌≤◌, ◌<◌, ◌^◌, ◌==◌, Bool, true, false, ◌||◌, cond, List, [], ◌∷◌, ◌++◌, map, length, Option, Some, None, IsTrue, refl, sym, ◌∙◌, ap, subst, arith}
 use Rattle.std.proofs.lemmas.Bool.{eqb-true, eq-eqb, lt-ltb}
 use Rattle.std.proofs.lemmas.List.{append-nil, length-map}
@@ -277,6 +278,7 @@ stood_looked first t0 most old new s looked moments stood =
     (λ told. let honest = subst (λ (h : Bool). IsTrue h) looked.honest told in
     let looks = looked.looks honest in
     (looks_carry old new).looked first (tapes_of s) t0 s.journal stood.b stood.after s.history.items (moments honest) (stood.upright.held honest) (record { bytes = looks.bytes; now = looks.now; crash = looks.crash }))
+    (λ honest. stays_same s.journal.shape old.bytes new.bytes (looked.looks honest).bytes)
 
 -- ---- how many calls it takes
 

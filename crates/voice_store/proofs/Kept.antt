@@ -42,6 +42,7 @@ use Rattle.fillings.proofs.Counting.{or_cases}
 use Rattle.crash_laws.specs.Foundations.{Foundations}
 use Rattle.crash_laws.specs.Standing.{IsHonest, IsHeld}
 use Rattle.crash_laws.proofs.Opened.{standing_gives}
+use Rattle.next_ropes.specs.Addresses.{KeepsAddresses}
 use Rattle.next_ropes.specs.Ready.{IsReady, AreLive, most_held}
 use Rattle.next_changes.specs.declared.NextChange.TheVariants as changes
 use Rattle.next_ropes.specs.declared.NextRope.{NextRope}
@@ -52,6 +53,7 @@ use Rattle.voice_store.specs.Stood.{last_of, tapes_of, Upright, IsSure, IsUnsure
 use Rattle.voice_store.specs.Ways.{IsWay}
 use Rattle.voice_store.specs.Trying.{Trying}
 use Rattle.voice_store.specs.Keeping.{MakesRope, HasWay}
+use Rattle.voice_store.proofs.Filled.{still_filled, stays_same}
 use Rattle.voice_store.proofs.Refused.{wrong, kept_again}
 use Rattle.voice_store.proofs.Holding.{few_held}
 use Rattle.voice_store.proofs.Making.{IsMaking, edit_makes, edit_reply, may_commit}
@@ -74,27 +76,28 @@ module _ (first : State) (t0 : ℕ) (disk : Told) (s : Inside) (stood : Stood fi
       by (inl sure) = sure
       by (inr unsure) = absurd (some_none unsure.doubted (sym unsure.unsure ∙ none))
 
-  -- the history is held as the tables show it
-  pub upright_by : (parts : Parts) → Upright first t0 disk (record s { parts = parts }) stood.fill stood.b stood.b
-  upright_by parts = let up = stood.upright in record {
+  -- the history is held as the tables show it, which give no address anew
+  pub upright_by : (parts : Parts) → KeepsAddresses s.parts.blocks.holders parts.blocks.holders → Upright first t0 disk (record s { parts = parts }) stood.fill stood.b stood.b
+  upright_by parts keeps = let up = stood.upright in record {
     legal = up.legal;
     valid = up.valid;
     fills = up.fills;
     seated = up.seated;
     acks = up.acks;
     held = λ h. subst (λ x. IsHeld first (tapes_of s) t0 s.journal disk stood.b x s.history.items) is_sure.same (up.held h);
+    bytes = λ h. still_filled stood.fill s.journal.shape disk.bytes disk.bytes s.parts.blocks.holders parts.blocks.holders keeps (stays_same s.journal.shape disk.bytes disk.bytes refl) (up.bytes h);
   }
 
   -- other tables that show the same
-  pub same_parts : (parts : Parts) → Runs stood.held [] stood.takings parts stood.b → Stood first t0 disk (record s { parts = parts })
-  same_parts parts shows = record {
+  pub same_parts : (parts : Parts) → Runs stood.held [] stood.takings parts stood.b → KeepsAddresses s.parts.blocks.holders parts.blocks.holders → Stood first t0 disk (record s { parts = parts })
+  same_parts parts shows keeps = record {
     fill = stood.fill;
     b = stood.b;
     after = stood.b;
     held = stood.held;
     takings = stood.takings;
     holding = stood.holding;
-    upright = upright_by parts;
+    upright = upright_by parts keeps;
     tables = inl (record { sure = none; in_journal = is_sure.in_journal; in_state = is_sure.in_state; tables = shows; same = refl });
     size = stood.size;
   }
@@ -226,11 +229,11 @@ module _ (first : State) (t0 : ℕ) (disk : Told) (s : Inside) (call : Call) (pi
       edit_reply now (tapes_of s) call h.makes.edits ∙ ap (λ o. replies.Rope now.next (samples_made o now)) rope.effect ∙ ap (replies.Rope now.next) len
       ∙ ap (λ n. replies.Rope n (samples_in next.pieces)) (sym (id ∙ same_number first t0 disk s h.makes.stood h.makes.sure))
 
-  pub trying : Foundations → (IsTrue disk.honest → IsHonest disk) → (caller : ℕ) (parts : Parts) (next : NextRope) → IsReady h.makes.stood.held h.makes.stood.takings parts b next (kinds.Edited b.next pieces)
+  pub trying : Foundations → (IsTrue disk.honest → IsHonest disk) → (caller : ℕ) (parts : Parts) → KeepsAddresses s.parts.blocks.holders parts.blocks.holders → (next : NextRope) → IsReady h.makes.stood.held h.makes.stood.takings parts b next (kinds.Edited b.next pieces)
       → (reply : Reply) → reply ≡ replies.Rope next.id (samples_in next.pieces)
       → Trying first t0 disk (record s { parts = parts }) b (changes.Rope next) (kinds.Edited b.next pieces) made caller call reply
-  trying laws honest caller parts next ready reply is =
-      let up = upright_by first t0 disk s h.makes.stood h.makes.sure parts in
+  trying laws honest caller parts keeps next ready reply is =
+      let up = upright_by first t0 disk s h.makes.stood h.makes.sure parts keeps in
       record {
         fill = h.makes.stood.fill;
         upright = up;

@@ -79,6 +79,7 @@ module _ (first : State) (t0 : ℕ) (disk : Told) (s : Inside) (history : Vec En
       seated = subst (λ (t : State). IsSeated s.journal t) (sym last) up.seated;
       acks = subst (λ l. AcksRise t0 l disk.calls) (sym is) up.acks;
       held = λ h. subst (λ l. IsHeld first (tapes_of s) t0 s.journal disk stood.b stood.after l) (sym is) (up.held h);
+      bytes = up.bytes;
     };
     tables = by stood.tables;
     size = stood.size;

@@ -13,6 +13,7 @@ pub mod Histories
 pub mod Kept
 pub mod Landed
 pub mod Making
+pub mod Filled
 pub mod Pushed
 pub mod Recordable
 pub mod Recorded

@@ -14,6 +14,8 @@ use Rattle.voice_model.specs.declared.calls.Entry.{Entry}
 use Rattle.crash_laws.specs.Standing.{IsHeld}
 use Rattle.voice_store.specs.declared.inside.Inside.{Inside}
 use Rattle.voice_store.specs.Stood.{tapes_of, last_of, Fills, IsSeated, AcksRise, IsHolding, Upright, IsSure, IsUnsure, Stood}
+use Rattle.voice_store.specs.Filled.{IsFilled}
+use Rattle.voice_store.proofs.Filled.{StaysBehind, still_filled}
 use Rattle.voice_store.proofs.Entries.{after_one, legal_one, acks_one, acks_later}
 
 -- a history that is legal on a disk is on one as honest
@@ -42,9 +44,10 @@ module _ (first : State) (t0 : ℕ) (old new : Told) (s s' : Inside) (e : Entry)
   pub stood_pushed : (fill : Spot → Tagged) (b b' after' after'' : Rebuilt) (held : List (List Piece)) (takings : List ℕ) → Upright first t0 old s fill b after' → old.calls ≤ new.calls → new.honest ≡ old.honest → e.ack ≡ new.calls
       → IsAnswerOn new.honest last (tapes_of s) e → IsState next → IsHolding held takings s'.journal.shape.block next.lanes → Fills fill b' next → IsSeated s'.journal next
       → (IsTrue new.honest → IsHeld first (tapes_of s) t0 s'.journal new b' after'' (s.history.items ++ e ∷ []))
+      → (IsTrue new.honest → IsFilled fill s'.journal.shape new.bytes s'.parts.blocks.holders)
       → IsSure held takings s' b' after'' next ⊎ IsUnsure fill held takings s' b' after'' next → extent s'.journal.shape ≤ new.size
       → Stood first t0 new s'
-  stood_pushed fill b b' after' after'' held takings up later alike now answers valid holding fills seated stands tables size = record {
+  stood_pushed fill b b' after' after'' held takings up later alike now answers valid holding fills seated stands filled tables size = record {
     fill = fill;
     b = b';
     after = after'';
@@ -58,6 +61,7 @@ module _ (first : State) (t0 : ℕ) (old new : Told) (s s' : Inside) (e : Entry)
       seated = subst (λ (t : State). IsSeated s'.journal t) (sym last_next) seated;
       acks = here (λ ts l. AcksRise t0 l new.calls) (acks_one t0 s.history.items e new.calls (acks_later t0 s.history.items old.calls new.calls up.acks later) now);
       held = λ honest. here (λ ts l. IsHeld first ts t0 s'.journal new b' after'' l) (stands honest);
+      bytes = filled;
     };
     tables = subst (λ (t : State). IsSure held takings s' b' after'' t ⊎ IsUnsure fill held takings s' b' after'' t) (sym last_next) tables;
     size = size;
@@ -65,8 +69,8 @@ module _ (first : State) (t0 : ℕ) (old new : Told) (s s' : Inside) (e : Entry)
 
 -- a store whose disk went on, with nothing new
 pub stood_went_on : (first : State) (t0 : ℕ) (old new : Told) (s : Inside) (stood : Stood first t0 old s) → old.calls ≤ new.calls → new.size ≡ old.size → new.honest ≡ old.honest
-    → (IsTrue new.honest → IsHeld first (tapes_of s) t0 s.journal new stood.b stood.after s.history.items) → Stood first t0 new s
-stood_went_on first t0 old new s stood later size alike held = record {
+    → (IsTrue new.honest → IsHeld first (tapes_of s) t0 s.journal new stood.b stood.after s.history.items) → (IsTrue old.honest → StaysBehind s.journal.shape old.bytes new.bytes) → Stood first t0 new s
+stood_went_on first t0 old new s stood later size alike held behind = record {
   fill = stood.fill;
   b = stood.b;
   after = stood.after;
@@ -80,6 +84,7 @@ stood_went_on first t0 old new s stood later size alike held = record {
     seated = stood.upright.seated;
     acks = acks_later t0 s.history.items old.calls new.calls stood.upright.acks later;
     held = held;
+    bytes = λ is. let was = subst (λ (h : Bool). IsTrue h) alike is in still_filled stood.fill s.journal.shape old.bytes new.bytes s.parts.blocks.holders s.parts.blocks.holders (λ a holder had. had) (behind was) (stood.upright.bytes was);
   };
   tables = stood.tables;
   size = let is = stood.size in omega (arith, is, size);

@@ -5,7 +5,10 @@ use Rattle.voice_units.specs.declared.pieces.Piece.{Piece}
 use Rattle.voice_outside.specs.Disk.{Told}
 use Rattle.voice_units.specs.declared.shapes.Shape.{Shape}
 use Rattle.voice_journal.specs.Places.{JournalValue, closed_after, landed as landed_seat}
-use Rattle.voice_journal.specs.Readings.{extent}
+use Rattle.voice_journal.specs.Readings.{extent, SameElsewhere}
+use Rattle.next_ropes.specs.Addresses.{KeepsAddresses}
+use Rattle.voice_store.specs.Filled.{IsFilled}
+use Rattle.voice_store.proofs.Filled.{still_filled, stays_elsewhere}
 use Rattle.voice_journal.specs.declared.seats.Doubt.{Doubt}
 use Rattle.voice_units.specs.Spots.{Spot}
 use Rattle.voice_model.specs.Samples.{Tagged}
@@ -73,11 +76,11 @@ module _ (first : State) (t0 : ℕ) (old new : Told) (s s' : Inside) (was : Stoo
   honest : IsTrue new.honest → IsTrue old.honest
   honest h = subst (λ (b : Bool). IsTrue b) alike h
 
-  pub stood_landed : s'.tapes ≡ s.tapes → s'.history.items ≡ s.history.items ++ landing_at new.calls ∷ [] → s'.journal ≡ landed_journal s.journal unsure.doubt
+  pub stood_landed : s'.tapes ≡ s.tapes → s'.history.items ≡ s.history.items ++ landing_at new.calls ∷ [] → (IsTrue old.honest → SameElsewhere s.journal.shape old.bytes new.bytes) → KeepsAddresses s.parts.blocks.holders s'.parts.blocks.holders → s'.journal ≡ landed_journal s.journal unsure.doubt
       → s'.doubt ≡ None → s'.parts.form ≡ unsure.doubted.form → Runs was.held [] was.takings (in_form was.b.form s'.parts) (acted was.b unsure.change)
       → (IsTrue old.honest → Lands s.journal s'.journal old new × LandsWithin s.journal old new)
       → Stood first t0 new s'
-  stood_landed tapes items journal doubt form tables does =
+  stood_landed tapes items elsewhere keeps journal doubt form tables does =
       let lands = unsure.lands in
       let e = landing_at new.calls in
       let next_is : state_after last (tapes_of s) e ≡ landed last = refl in
@@ -93,17 +96,20 @@ module _ (first : State) (t0 : ℕ) (old new : Told) (s s' : Inside) (was : Stoo
       (subst (λ (j : JournalValue). stood.IsHolding was.held was.takings j.shape.block last.lanes) (sym journal) was.holding))
       lands.fills seated
       (λ h. let d = does (honest h) in carry.ok first (tapes_of s) t0 s.journal s'.journal was.b was.after s.history.items unsure.pending (moments (honest h)) (was.upright.held (honest h)) unsure.in_state d.0 d.1)
+      (λ h. subst (λ (j : JournalValue). IsFilled was.fill j.shape new.bytes s'.parts.blocks.holders) (sym journal)
+      (still_filled was.fill s.journal.shape old.bytes new.bytes s.parts.blocks.holders s'.parts.blocks.holders keeps (stays_elsewhere s.journal.shape old.bytes new.bytes (elsewhere (honest h))) (was.upright.bytes (honest h))))
       (inl (record { sure = doubt; in_journal = ap (λ (j : JournalValue). j.doubt) journal; in_state = none; tables = shows; same = refl }))
       (let is = was.size in let shape : s'.journal.shape ≡ s.journal.shape = ap (λ (j : JournalValue). j.shape) journal in
       subst (λ (x : Shape). extent x ≤ new.size) (sym shape) (omega (arith, is, sizes)))
 
-  pub stood_not_landed : (journal : JournalValue) → journal ≡ s.journal → (IsTrue old.honest → StaysInDoubt s.journal journal old new × LandsWithin s.journal old new) → Stood first t0 new (record s { journal = journal })
-  stood_not_landed journal same stays =
+  pub stood_not_landed : (journal : JournalValue) → journal ≡ s.journal → (IsTrue old.honest → SameElsewhere s.journal.shape old.bytes new.bytes) → (IsTrue old.honest → StaysInDoubt s.journal journal old new × LandsWithin s.journal old new) → Stood first t0 new (record s { journal = journal })
+  stood_not_landed journal same elsewhere stays =
       subst (λ (j : JournalValue). Stood first t0 new (record s { journal = j })) (sym same)
       (stood_went_on first t0 old new s was later sizes alike
       (λ h. let d = stays (honest h) in
       carry.failed first (tapes_of s) t0 s.journal s.journal was.b was.after s.history.items unsure.pending (moments (honest h)) (was.upright.held (honest h)) unsure.in_state
-      (subst (λ (j : JournalValue). StaysInDoubt s.journal j old new) same d.0) d.1))
+      (subst (λ (j : JournalValue). StaysInDoubt s.journal j old new) same d.0) d.1)
+      (λ h. stays_elsewhere s.journal.shape old.bytes new.bytes (elsewhere h)))
 
 -- ---- what is ready
 

@@ -67,6 +67,18 @@ block_above low high block less =
     let parts : (low + 1) * block ≡ low * block + block = add-mul low 1 block ∙ ap (λ n. low * block + n) (one-mul block) in
     omega (arith, whole, parts)
 
+-- a byte of a block whose address is none of these lies outside of their blocks
+pub outside_of : (shape : Shape) (addresses : List ℕ) (address i : ℕ) → ((k : ℕ) → k < length addresses → ¬ (slice_index addresses k ≡ address)) → block_place shape address ≤ i → i < block_place shape address + shape.block → LiesOutside shape addresses i
+outside_of shape addresses address i other from to = λ k within low high. by k within low high (cases (slice_index addresses k) address)
+  where
+    cases : (x y : ℕ) → (x < y) ⊎ ((y < x) ⊎ (x ≡ y))
+    cases x y = grind arith
+
+    by : (k : ℕ) → k < length addresses → block_place shape (slice_index addresses k) ≤ i → i < block_place shape (slice_index addresses k) + shape.block → (slice_index addresses k < address) ⊎ ((address < slice_index addresses k) ⊎ (slice_index addresses k ≡ address)) → ⊥
+    by k within low high (inl less) = let above = block_above (slice_index addresses k) address shape.block less in absurd (omega (arith, from, high, above))
+    by k within low high (inr (inl more)) = let above = block_above address (slice_index addresses k) shape.block more in absurd (omega (arith, to, low, above))
+    by k within low high (inr (inr same)) = other k within same
+
 module _ (b : Rebuilt) (addresses : List ℕ) (below : AreBelow b.shape.blocks addresses) (free : (k : ℕ) → k < length addresses → has_address b.places (slice_index addresses k) ≡ false) where
   abbrev shape : Shape
   shape = b.shape
@@ -81,15 +93,7 @@ module _ (b : Rebuilt) (addresses : List ℕ) (below : AreBelow b.shape.blocks a
       absurd (omega (arith, more, to, above, product))
 
   in_place : (address i : ℕ) → has_address b.places address ≡ true → block_place shape address ≤ i → i < block_place shape address + shape.block → LiesOutside shape addresses i
-  in_place address i has from to = λ k within low high. by k within low high (cases (slice_index addresses k) address)
-    where
-      cases : (x y : ℕ) → (x < y) ⊎ ((y < x) ⊎ (x ≡ y))
-      cases x y = grind arith
-
-      by : (k : ℕ) → k < length addresses → block_place shape (slice_index addresses k) ≤ i → i < block_place shape (slice_index addresses k) + shape.block → (slice_index addresses k < address) ⊎ ((address < slice_index addresses k) ⊎ (slice_index addresses k ≡ address)) → ⊥
-      by k within low high (inl less) = let above = block_above (slice_index addresses k) address shape.block less in absurd (omega (arith, from, high, above))
-      by k within low high (inr (inl more)) = let above = block_above address (slice_index addresses k) shape.block more in absurd (omega (arith, to, low, above))
-      by k within low high (inr (inr same)) = wrong (sym (free k within) ∙ ap (λ (a : ℕ). has_address b.places a) same ∙ has)
+  in_place address i has = outside_of shape addresses address i (λ k within same. wrong (sym (free k within) ∙ ap (λ (a : ℕ). has_address b.places a) same ∙ has))
 
   spares : (old new : List ℕ) → SameOutside shape addresses old new → Spares shape b old new
   spares old new same = record {

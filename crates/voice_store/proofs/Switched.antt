@@ -1,4 +1,6 @@
 -- A change that was written as a base, by what the journal says of it.
+use Rattle.voice_journal.specs.Readings.{SameElsewhere}
+use Rattle.next_ropes.specs.Addresses.{KeepsAddresses}
 use Rattle.std.proofs.Common.{◌≡◌, ℕ, ◌+◌, ◌-◌, ◌≤◌, ◌<◌, ◌==◌, List, [], ◌∷◌, ◌++◌, map, Bool, true, false, cond, ◌||◌, Some, None, is_some, IsTrue, refl, sym, ◌∙◌, ap, subst, arith}
 use Rattle.std.specs.Prelude.{nat_le}
 use Rattle.voice_units.specs.declared.pieces.Piece.{Piece}
@@ -189,12 +191,13 @@ module _ (first : State) (t0 : ℕ) (old new : Told) (s s' : Inside) (b : Rebuil
       record { kept = ap (λ (t : State). t.kept) is; doubt = ap (λ (t : State). t.doubt) is ∙ tr.may.sure; form = ap (λ (t : State). t.form) is ∙ sym to_form }
 
   pub switched_stood : s'.tapes ≡ s.tapes → s'.history.items ≡ s.history.items ++ entry_done first t0 old new s s' b next c effect caller call reply tr later sizes alike moments ∷ []
+      → (IsTrue old.honest → SameElsewhere s.journal.shape old.bytes new.bytes) → KeepsAddresses s.parts.blocks.holders s'.parts.blocks.holders
       → s'.journal.shape ≡ s.journal.shape → s'.journal.seat ≡ landed_seat s.journal.seat (Area gate) → s'.journal.doubt ≡ None → s'.doubt ≡ None
       → (parts : Parts) → Runs tr.held [] tr.takings parts x → s'.parts ≡ in_form base.form parts
       → SwitchesCarry old new → (IsTrue old.honest → Does (λ r. switched r base.payloads) s.journal s'.journal old new × StaysWithin (λ r. switched r base.payloads) s.journal old new)
       → Stood first t0 new s'
-  switched_stood tapes items shape seat sure none parts tables parts_are carry does =
-      stood_done first t0 old new s s' b next c effect caller call reply tr later sizes alike end (Area gate) tapes items shape seat sure none
+  switched_stood tapes items elsewhere keeps shape seat sure none parts tables parts_are carry does =
+      stood_done first t0 old new s s' b next c effect caller call reply tr later sizes alike end (Area gate) tapes items elsewhere keeps shape seat sure none
       (subst (λ (p : Parts). Runs tr.held [] tr.takings p end) (sym parts_are) (tables_then parts tables)) fills_then seated_then
       (λ h. let h' = honest h in let d = does h' in
       let e = entry_done first t0 old new s s' b next c effect caller call reply tr later sizes alike moments in
@@ -208,11 +211,12 @@ module _ (first : State) (t0 : ℕ) (old new : Told) (s s' : Inside) (b : Rebuil
 
   pub switch_waits : (doubted : Doubted) → doubted.next ≡ next → doubted.form ≡ base.form → s'.tapes ≡ s.tapes
       → s'.history.items ≡ s.history.items ++ entry_waits first t0 old new s s' b next c effect caller call reply tr later sizes alike moments ∷ []
+      → (IsTrue old.honest → SameElsewhere s.journal.shape old.bytes new.bytes)
       → s'.journal.shape ≡ s.journal.shape → s'.journal.seat ≡ s.journal.seat → s'.journal.doubt ≡ Some (Area gate) → s'.doubt ≡ Some doubted → s'.parts ≡ s.parts
       → SwitchesCarry old new → (IsTrue old.honest → Doubts (λ r. switched r base.payloads) s.journal s'.journal old new × StaysWithin (λ r. switched r base.payloads) s.journal old new)
       → Stood first t0 new s'
-  switch_waits doubted same form tapes items shape seat unsure some parts carry doubts =
-      stood_waits first t0 old new s s' b next c effect caller call reply tr later sizes alike end (Area gate) doubted same tapes items shape seat unsure some parts
+  switch_waits doubted same form tapes items elsewhere shape seat unsure some parts carry doubts =
+      stood_waits first t0 old new s s' b next c effect caller call reply tr later sizes alike end (Area gate) doubted same tapes items elsewhere shape seat unsure some parts
       (λ p shows. subst (λ (f : ℕ). Runs tr.held [] tr.takings (in_form f p) end) (sym form) (tables_then p shows))
       fills_then
       seated_then

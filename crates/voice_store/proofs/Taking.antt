@@ -74,6 +74,13 @@ module _ (fill : Spot → Tagged) (same : (x : Spot) → spot_of (fill x) ≡ x)
   unfolding later_fill
   here place = ap (λ (v : Bool). let t : Tagged = record { byte = cond v (slice_index bytes place) (fill (record { file = id; place = place })).byte; file = id; place = place } in t) (eq-eqb id id refl)
 
+  pub later_here : (place : ℕ) → (later (record { file = id; place = place })).byte ≡ slice_index bytes place
+  later_here place = ap (λ (t : Tagged). t.byte) (here place)
+
+  pub later_other : (x : Spot) → ¬ (x.file ≡ id) → (later x).byte ≡ (fill x).byte
+  unfolding later_fill
+  later_other x other = ap (λ (v : Bool). cond v (slice_index bytes x.place) (fill x).byte) (not_equal x.file id other)
+
   recorded_again : (from : ℕ) (rest : List ℕ) → ((k : ℕ) → k < length rest → slice_index bytes (from + k) ≡ slice_index rest k) → map later (map spot_of (recorded_from id from rest)) ≡ recorded_from id from rest
   recorded_again from [] each = refl
   recorded_again from (byte ∷ rest) each =

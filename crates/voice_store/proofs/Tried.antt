@@ -1,9 +1,9 @@
 -- A change that went to the journal: it is done, it failed before it counted, or it is in doubt.
-use Rattle.std.proofs.Common.{◌≡◌, inl, inr, ℕ, ◌≤◌, [], ◌∷◌, ◌++◌, Option, Some, None, IsTrue, refl, sym, ◌∙◌, ap, subst, arith}
+use Rattle.std.proofs.Common.{◌≡◌, inl, inr, ℕ, ◌≤◌, Bool, [], ◌∷◌, ◌++◌, Option, Some, None, IsTrue, refl, sym, ◌∙◌, ap, subst, arith}
 use Rattle.voice_outside.specs.Disk.{Told}
 use Rattle.voice_units.specs.declared.shapes.Shape.{Shape}
 use Rattle.voice_journal.specs.Places.{JournalValue, landed as landed_seat}
-use Rattle.voice_journal.specs.Readings.{extent}
+use Rattle.voice_journal.specs.Readings.{extent, SameElsewhere}
 use Rattle.voice_journal.specs.declared.seats.Seat.{Seat}
 use Rattle.voice_journal.specs.declared.seats.Doubt.{Doubt}
 use Rattle.voice_model.specs.Samples.{Tagged}
@@ -22,6 +22,8 @@ use Rattle.voice_model.proofs.Heard.{answer_on}
 use Rattle.voice_model.proofs.StatesKept.{state_kept}
 use Rattle.running_tables.specs.Running.{Runs}
 use Rattle.recovery.specs.declared.parts.Parts.{Parts}
+use Rattle.voice_blocks.specs.Holders.{holder_at}
+use Rattle.next_ropes.specs.Addresses.{KeepsAddresses}
 use Rattle.next_changes.specs.Next.{IsNext}
 use Rattle.next_changes.specs.declared.NextChange.{NextChange}
 use Rattle.crash_laws.specs.Standing.{IsHeld}
@@ -29,7 +31,9 @@ use Rattle.voice_store.specs.declared.inside.Inside.{Inside}
 use Rattle.voice_store.specs.declared.inside.Doubted.{Doubted}
 use Rattle.voice_store.specs.Stood.{tapes_of, last_of, in_form, Fills, Brings, IsSeated, IsHolding, Stood, Lands}
 use Rattle.voice_store.specs.Facts.{entry_of, landing_at}
+use Rattle.voice_store.specs.Filled.{IsFilled}
 use Rattle.voice_store.specs.Trying.{Trying}
+use Rattle.voice_store.proofs.Filled.{still_filled, stays_elsewhere}
 use Rattle.voice_store.proofs.Pushed.{stood_pushed}
 use Rattle.voice_store.proofs.Settled.{is_true}
 
@@ -61,6 +65,13 @@ module _ (first : State) (t0 : ℕ) (old new : Told) (s s' : Inside) (b : Rebuil
   still_holding : s'.journal.shape ≡ s.journal.shape → IsHolding tr.held tr.takings s'.journal.shape.block last.lanes
   still_holding shape = subst (λ (x : Shape). IsHolding tr.held tr.takings x.block last.lanes) (sym shape) tr.holding
 
+  -- the blocks have their bytes still, where the call wrote to the areas alone
+  still : s'.journal.shape ≡ s.journal.shape → (IsTrue old.honest → SameElsewhere s.journal.shape old.bytes new.bytes) → KeepsAddresses s.parts.blocks.holders s'.parts.blocks.holders → IsTrue new.honest → IsFilled tr.fill s'.journal.shape new.bytes s'.parts.blocks.holders
+  still shape elsewhere keeps is =
+      let was = subst (λ (h : Bool). IsTrue h) alike is in
+      subst (λ (x : Shape). IsFilled tr.fill x new.bytes s'.parts.blocks.holders) (sym shape)
+      (still_filled tr.fill s.journal.shape old.bytes new.bytes s.parts.blocks.holders s'.parts.blocks.holders keeps (stays_elsewhere s.journal.shape old.bytes new.bytes (elsewhere was)) (tr.upright.bytes was))
+
   -- ---- it is done
 
   answers_done : IsAnswer last (tapes_of s) (said reply)
@@ -70,19 +81,20 @@ module _ (first : State) (t0 : ℕ) (old new : Told) (s s' : Inside) (b : Rebuil
   next_done = subst (λ (r : Reply). state_after last (tapes_of s) (said r) ≡ committed last last.form effect) tr.replies (tr.may.commits new.calls)
 
   pub stood_done : (after' : Rebuilt) (doubt : Doubt) → (tapes : s'.tapes ≡ s.tapes) → s'.history.items ≡ s.history.items ++ said reply ∷ []
+      → (IsTrue old.honest → SameElsewhere s.journal.shape old.bytes new.bytes) → KeepsAddresses s.parts.blocks.holders s'.parts.blocks.holders
       → s'.journal.shape ≡ s.journal.shape → s'.journal.seat ≡ landed_seat s.journal.seat doubt → s'.journal.doubt ≡ None → s'.doubt ≡ None
       → Runs tr.held [] tr.takings s'.parts after' → Fills tr.fill after' (committed last last.form effect)
       → IsSeated (record s.journal { seat = landed_seat s.journal.seat doubt }) (committed last last.form effect)
       → (IsTrue new.honest → IsHeld first (tapes_of s) t0 s'.journal new after' after' (s.history.items ++ said reply ∷ []))
       → Stood first t0 new s'
-  stood_done after' doubt tapes items shape seat sure none tables fills seated held =
+  stood_done after' doubt tapes items elsewhere keeps shape seat sure none tables fills seated held =
       let to : (P : State → Type 0) → P (committed last last.form effect) → P (state_after last (tapes_of s) (said reply)) = λ P p. subst P (sym next_done) p in
       stood_pushed first t0 old new s s' (said reply) tapes items tr.fill b after' b after' tr.held tr.takings tr.upright later alike refl (answer_on new.honest last (tapes_of s) (said reply) answers_done)
       (state_kept last (tapes_of s) (said reply) tr.upright.valid tr.in_range answers_done)
       (to (λ t. IsHolding tr.held tr.takings s'.journal.shape.block t.lanes) (still_holding shape))
       (to (λ t. Fills tr.fill after' t) fills)
       (to (λ t. IsSeated s'.journal t) (seated_as (record s.journal { seat = landed_seat s.journal.seat doubt }) s'.journal (committed last last.form effect) shape seat seated))
-      held
+      held (still shape elsewhere keeps)
       (inl (record { sure = none; in_journal = sure; in_state = to (λ t. t.doubt ≡ None) tr.may.sure; tables = tables; same = refl }))
       (shape_fits shape)
 
@@ -95,10 +107,11 @@ module _ (first : State) (t0 : ℕ) (old new : Told) (s s' : Inside) (b : Rebuil
   next_failed = tr.may.faults.stays new.calls
 
   pub stood_failed : (tapes : s'.tapes ≡ s.tapes) → s'.history.items ≡ s.history.items ++ said (replies.No why.DiskFault) ∷ []
+      → (IsTrue old.honest → SameElsewhere s.journal.shape old.bytes new.bytes) → KeepsAddresses s.parts.blocks.holders s'.parts.blocks.holders
       → s'.journal.shape ≡ s.journal.shape → s'.journal.seat ≡ s.journal.seat → s'.journal.doubt ≡ None → s'.doubt ≡ None → Runs tr.held [] tr.takings s'.parts b
       → (IsTrue new.honest → IsHeld first (tapes_of s) t0 s'.journal new b b (s.history.items ++ said (replies.No why.DiskFault) ∷ []))
       → Stood first t0 new s'
-  stood_failed tapes items shape seat sure none tables held =
+  stood_failed tapes items elsewhere keeps shape seat sure none tables held =
       let e = said (replies.No why.DiskFault) in
       let to : (P : State → Type 0) → P last → P (state_after last (tapes_of s) e) = λ P p. subst P (sym next_failed) p in
       stood_pushed first t0 old new s s' e tapes items tr.fill b b b b tr.held tr.takings tr.upright later alike refl (answer_on new.honest last (tapes_of s) e tr.may.faults.answers)
@@ -106,7 +119,7 @@ module _ (first : State) (t0 : ℕ) (old new : Told) (s s' : Inside) (b : Rebuil
       (to (λ t. IsHolding tr.held tr.takings s'.journal.shape.block t.lanes) (still_holding shape))
       (to (λ t. Fills tr.fill b t) tr.upright.fills)
       (to (λ t. IsSeated s'.journal t) (seated_as s.journal s'.journal last shape seat tr.upright.seated))
-      held
+      held (still shape elsewhere keeps)
       (inl (record { sure = none; in_journal = sure; in_state = to (λ t. t.doubt ≡ None) tr.may.sure; tables = tables; same = refl }))
       (shape_fits shape)
 
@@ -130,13 +143,14 @@ module _ (first : State) (t0 : ℕ) (old new : Told) (s s' : Inside) (b : Rebuil
 
   pub stood_waits : (after' : Rebuilt) (doubt : Doubt) (doubted : Doubted) → doubted.next ≡ next → (tapes : s'.tapes ≡ s.tapes)
       → s'.history.items ≡ s.history.items ++ said (replies.No why.InDoubt) ∷ []
+      → (IsTrue old.honest → SameElsewhere s.journal.shape old.bytes new.bytes)
       → s'.journal.shape ≡ s.journal.shape → s'.journal.seat ≡ s.journal.seat → s'.journal.doubt ≡ Some doubt → s'.doubt ≡ Some doubted → s'.parts ≡ s.parts
       → ((parts : Parts) → Runs tr.held [] tr.takings parts (acted b c) → Runs tr.held [] tr.takings (in_form doubted.form parts) after')
       → Fills tr.fill after' (committed last last.form effect)
       → IsSeated (record s.journal { seat = landed_seat s.journal.seat doubt }) (committed last last.form effect)
       → (IsTrue new.honest → IsHeld first (tapes_of s) t0 s'.journal new b after' (s.history.items ++ said (replies.No why.InDoubt) ∷ []))
       → Stood first t0 new s'
-  stood_waits after' doubt doubted same tapes items shape seat unsure some parts tables fills seated held =
+  stood_waits after' doubt doubted same tapes items elsewhere shape seat unsure some parts tables fills seated held =
       let e = said (replies.No why.InDoubt) in
       let to : (P : State → Type 0) → P waiting → P (state_after last (tapes_of s) e) = λ P p. subst P (sym next_waits) p in
       let there : (P : State → Type 0) → P (committed last last.form effect) → P (landed waiting) = λ P p. subst P (sym lands_then) p in
@@ -147,7 +161,7 @@ module _ (first : State) (t0 : ℕ) (old new : Told) (s s' : Inside) (b : Rebuil
       (to (λ t. Fills tr.fill b t) (record { spots = tr.upright.fills.spots; kept = tr.upright.fills.kept; form = tr.upright.fills.form }))
       (to (λ t. IsSeated s'.journal t)
       (seated_as s.journal s'.journal waiting shape seat (record { shape = tr.upright.seated.shape; left = tr.upright.seated.left; epoch = tr.upright.seated.epoch })))
-      held
+      held (still shape elsewhere (λ a holder had. subst (λ (p : Parts). holder_at p.blocks.holders a ≡ Some holder) parts had))
       (inr (record {
         doubted = doubted;
         unsure = some;

@@ -1,10 +1,13 @@
 -- A recording whose rope is ready, before and after its samples were written.
-use Rattle.std.proofs.Common.{◌≡◌, inl, ℕ, ◌+◌, ◌*◌, ◌≤◌, ◌==◌, Bool, true, cond, List, [], ◌∷◌, ◌++◌, length, None, IsTrue, refl, sym, ◌∙◌, ap, subst, arith}
-use Rattle.std.specs.Prelude.{Vec}
+use Rattle.std.proofs.Common.{◌≡◌, inl, ℕ, ◌+◌, ◌*◌, ◌<◌, ◌≤◌, ◌==◌, Bool, true, false, cond, List, [], ◌∷◌, ◌++◌, length, Some, None, IsTrue, refl, sym, ◌∙◌, ap, subst, arith}
+use Rattle.std.specs.Prelude.{Vec, slice_index}
 use Rattle.std.specs.List.{list_all}
 use Rattle.std.specs.declared.alloc.Global.{Global}
 use Rattle.voice_units.specs.declared.pieces.Take.{Take}
 use Rattle.voice_units.specs.declared.shapes.Shape.{Shape}
+use Rattle.voice_units.specs.declared.pieces.Piece.{Piece}
+use Rattle.voice_blocks.specs.Holders.{holder_at, block_of}
+use Rattle.voice_blocks.specs.declared.owner.Owner.TheVariants.{File}
 use Rattle.voice_units.specs.Spots.{Spot, samples_in, spots_from, pieces_of}
 use Rattle.voice_units.specs.Blocks.{blocks_for}
 use Rattle.voice_outside.specs.Disk.{Told}
@@ -14,7 +17,9 @@ use Rattle.voice_model.specs.Changes.{changed, frame_size}
 use Rattle.voice_model.specs.Changes as sizes
 use Rattle.voice_model.specs.Tapes.{taken}
 use Rattle.voice_model.specs.Step.{refusal, reply_of}
-use Rattle.voice_model.specs.Replay.{Rebuilt, acted, durable_by, recovered, all_differ, is_free_address}
+use Rattle.voice_model.specs.Replay.{Rebuilt, acted, durable_by, recovered, all_differ, is_free_address, new_places, placed_from}
+use Rattle.voice_model.specs.Valid.{Every}
+use Rattle.checkpoint.specs.Blocks.{IsHeld as IsHeldAt}
 use Rattle.voice_model.specs.Base.{change_of}
 use Rattle.voice_model.specs.Spelling.{spelling}
 use Rattle.voice_model.specs.declared.calls.Call.TheVariants as calls
@@ -31,6 +36,8 @@ use Rattle.voice_model.proofs.FitsOfCalls.{recorded_length}
 use Rattle.voice_model.proofs.Heard.{answer_on}
 use Rattle.voice_model.proofs.ChangesOfEffects.{size_again}
 use Rattle.running_tables.specs.Running.{Runs}
+use Rattle.running_tables.proofs.Taken.{none_yet}
+use Rattle.next_ropes.specs.Addresses.{KeepsAddresses, HandsOut}
 use Rattle.recovery.specs.declared.parts.Parts.{Parts}
 use Rattle.next_ropes.specs.Ready.{IsReady, next_change}
 use Rattle.next_ropes.specs.declared.NextRope.{NextRope}
@@ -45,7 +52,9 @@ use Rattle.crash_laws.proofs.Opened.{standing_gives}
 use Rattle.crash_laws.proofs.Writing.{writes_carry}
 use Rattle.crash_laws.proofs.Noted.{entries_count}
 use Rattle.voice_store.specs.declared.inside.Inside.{Inside}
+use Rattle.voice_store.specs.Filled.{IsFilled, IsPadded}
 use Rattle.voice_store.specs.Stood.{last_of, tapes_of, Upright, IsSure, Stood}
+use Rattle.voice_store.proofs.Filled.{placed_each, next_only, unwritten_filled, written_filled}
 use Rattle.voice_store.specs.Facts.{MayCommit, entry_of}
 use Rattle.voice_store.specs.Trying.{IsPlan, Trying}
 use Rattle.voice_store.specs.Keeping.{HasRoom, HoldsRecording, recorded_by}
@@ -83,8 +92,8 @@ Goes first t0 disk s take plan rope =
 abbrev pub holding : (first : State) (t0 : ℕ) (disk : Told) (s : Inside) (take : Take) (way : Way) (room : HasRoom first t0 disk s take way) (parts : Parts) (next : NextRope)
     → IsReady room.makes.stood.held room.makes.stood.takings parts room.makes.stood.b next (change_in room.makes.stood.b next) → next.recorded ≡ true → length next.addresses.items ≡ blocks_for s.journal.shape.block take.len
     → all_differ next.addresses.items ≡ true → list_all (is_free_address room.makes.stood.b) next.addresses.items ≡ true → next.pieces ≡ pieces_of (spots_from next.id 0 take.len)
-    → HoldsRecording first t0 disk (record s { parts = parts }) take next
-holding first t0 disk s take way room parts next ready recorded many differ spare pieces = record {
+    → HandsOut room.makes.stood.b.next s.parts.blocks.holders parts.blocks.holders → HoldsRecording first t0 disk (record s { parts = parts }) take next
+holding first t0 disk s take way room parts next ready recorded many differ spare pieces handed = record {
   before = s.parts;
   makes = room.makes;
   free = room.free;
@@ -94,7 +103,12 @@ holding first t0 disk s take way room parts next ready recorded many differ spar
   differ = differ;
   spare = spare;
   pieces = pieces;
+  handed = handed;
 }
+
+-- its blocks alone got addresses
+pub handed_on : (first : State) (t0 : ℕ) (disk : Told) (s : Inside) (take : Take) (way : Way) (room : HasRoom first t0 disk s take way) (parts : Parts) → HandsOut s.parts.next s.parts.blocks.holders parts.blocks.holders → HandsOut room.makes.stood.b.next s.parts.blocks.holders parts.blocks.holders
+handed_on first t0 disk s take way room parts hands = subst (λ n. HandsOut n s.parts.blocks.holders parts.blocks.holders) (is_sure first t0 disk s room.makes.stood room.makes.sure).tables.kept.next hands
 
 module _ (first : State) (t0 : ℕ) (old : Told) (s : Inside) (take : Take) (next : NextRope) (h : HoldsRecording first t0 old s take next) where
   abbrev then : Inside
@@ -160,8 +174,31 @@ module _ (first : State) (t0 : ℕ) (old : Told) (s : Inside) (take : Take) (nex
   count : (block : ℕ) → block ≡ s.journal.shape.block → length addresses ≡ blocks_for block (length (recording last.next bytes))
   count block is = h.many ∙ ap (λ n. blocks_for n take.len) (sym is) ∙ ap (blocks_for block) (sym samples_many)
 
-  pub upright_then : Upright first t0 old s h.makes.stood.fill b b
-  upright_then = upright_by first t0 old then h.makes.stood h.makes.sure s.parts
+  -- ---- its addresses
+
+  recorded_places : (is : Bool) (form id len : ℕ) (pieces : List Piece) (ats : List ℕ) → is ≡ true → new_places (cond is (cond (form == 2) (kinds.Wide id len ats) (kinds.Recorded id len ats)) (kinds.Edited id pieces)) ≡ placed_from id 0 ats
+  recorded_places is form id len pieces ats recorded = ap (λ (r : Bool). new_places (cond r (cond (form == 2) (kinds.Wide id len ats) (kinds.Recorded id len ats)) (kinds.Edited id pieces))) recorded ∙ in_form (form == 2)
+    where
+      in_form : (two : Bool) → new_places (cond two (kinds.Wide id len ats) (kinds.Recorded id len ats)) ≡ placed_from id 0 ats
+      in_form true = refl
+      in_form false = refl
+
+  placed : Every (IsHeldAt s.parts.blocks.holders) (placed_from next.id 0 addresses)
+  placed = subst (λ ps. Every (IsHeldAt s.parts.blocks.holders) ps) (recorded_places next.recorded b.form next.id (samples_in next.pieces) next.pieces addresses h.recorded) h.ready.places
+
+  own : (k : ℕ) → k < length addresses → holder_at s.parts.blocks.holders (slice_index addresses k) ≡ Some (block_of (File b.next) k)
+  own k less =
+      placed_each s.parts.blocks.holders next.id 0 addresses placed k less ∙ ap (λ n. Some (block_of (File next.id) n)) (let same : 0 + k ≡ k = omega arith in same)
+      ∙ ap (λ n. Some (block_of (File n) k)) h.ready.number
+
+  none_before : (a index : ℕ) → ¬ (holder_at h.before.blocks.holders a ≡ Some (block_of (File b.next) index))
+  none_before = none_yet h.makes.stood.held h.makes.stood.takings h.before b tables_then.tables
+
+  only_own : (a index : ℕ) → holder_at s.parts.blocks.holders a ≡ Some (block_of (File b.next) index) → index < length addresses
+  only_own a index e =
+      subst (λ n. index < n) (ap (λ (x : Shape). blocks_for x.block take.len) in_shape ∙ sym h.many)
+      (next_only h.makes.stood.held h.makes.stood.takings s.parts b next.pieces take.len h.ready.runs
+      (h.pieces ∙ ap (λ n. pieces_of (spots_from n 0 take.len)) h.ready.number) a index e)
 
   frame : frame_size last.form last.kept.shape.block effect ≡ 5 + length next.payload.items
   frame =
@@ -201,20 +238,36 @@ module _ (first : State) (t0 : ℕ) (old : Told) (s : Inside) (take : Take) (nex
     held_on : (after' : Rebuilt) → IsHeld first (tapes_of s) t0 s.journal old b after' s.history.items → IsTrue old.honest → IsHeld first (tapes_of s) t0 s.journal new b after' s.history.items
     held_on after' held is = (writes_carry laws old new).spared first (tapes_of s) t0 s.journal b after' s.history.items (moments is) held tables_then.in_state (spared is)
 
-    upright_on : Upright first t0 new s h.makes.stood.fill b b
-    upright_on = let up = upright_then in record {
+    back_filled : (parts : Parts) → KeepsAddresses s.parts.blocks.holders parts.blocks.holders → Runs h.makes.stood.held [] h.makes.stood.takings parts b → IsTrue new.honest → IsFilled h.makes.stood.fill s.journal.shape new.bytes parts.blocks.holders
+    back_filled parts keeps shows is =
+        unwritten_filled h.makes.stood.fill h.makes.stood.upright.fills.spots s.journal.shape b.next addresses old.bytes new.bytes h.before.blocks.holders s.parts.blocks.holders h.handed none_before own
+        (wrote (to_old is)).bytes (h.makes.stood.upright.bytes (to_old is)) parts.blocks.holders keeps (none_yet h.makes.stood.held h.makes.stood.takings parts b shows)
+
+    all_filled : (IsTrue old.honest → HasBytes new.bytes s.journal.shape addresses bytes) → (IsTrue old.honest → IsPadded new.bytes s.journal.shape addresses (length bytes)) → IsTrue new.honest → IsFilled later s.journal.shape new.bytes s.parts.blocks.holders
+    all_filled has padded is =
+        subst (λ n. IsFilled (later_fill h.makes.stood.fill n bytes) s.journal.shape new.bytes s.parts.blocks.holders) number
+        (written_filled h.makes.stood.fill h.makes.stood.upright.fills.spots s.journal.shape b.next addresses old.bytes new.bytes h.before.blocks.holders s.parts.blocks.holders h.handed none_before own
+        (wrote (to_old is)).bytes (h.makes.stood.upright.bytes (to_old is)) bytes only_own h.ready.runs.given.single (has (to_old is)) (padded (to_old is)))
+
+    held_now : IsTrue new.honest → IsHeld first (tapes_of s) t0 s.journal new b b s.history.items
+    held_now is = held_on b (subst (λ x. IsHeld first (tapes_of s) t0 s.journal old b x s.history.items) tables_then.same (h.makes.stood.upright.held (to_old is))) (to_old is)
+
+    -- the tables hold these blocks or not, as the disk has them
+    upright_on : (parts : Parts) → (IsTrue new.honest → IsFilled h.makes.stood.fill s.journal.shape new.bytes parts.blocks.holders) → Upright first t0 new (record s { parts = parts }) h.makes.stood.fill b b
+    upright_on parts filled = let up = h.makes.stood.upright in record {
       legal = as_honest first old new s alike up.legal;
       valid = up.valid;
       fills = up.fills;
       seated = up.seated;
       acks = acks_later t0 s.history.items old.calls new.calls up.acks later_on;
-      held = λ is. held_on b (up.held (to_old is)) (to_old is);
+      held = held_now;
+      bytes = filled;
     }
 
     -- the recording's bytes are filled in besides
-    upright_later : Upright first t0 new s later b b
-    upright_later = let up = upright_on in record {
-      legal = up.legal;
+    upright_later : (IsTrue new.honest → IsFilled later s.journal.shape new.bytes s.parts.blocks.holders) → Upright first t0 new s later b b
+    upright_later filled = let up = h.makes.stood.upright in record {
+      legal = as_honest first old new s alike up.legal;
       valid = up.valid;
       fills = record {
         spots = later_spots h.makes.stood.fill up.fills.spots last.next bytes;
@@ -222,15 +275,16 @@ module _ (first : State) (t0 : ℕ) (old : Told) (s : Inside) (take : Take) (nex
         form = up.fills.form;
       };
       seated = up.seated;
-      acks = up.acks;
-      held = up.held;
+      acks = acks_later t0 s.history.items old.calls new.calls up.acks later_on;
+      held = held_now;
+      bytes = filled;
     }
 
     -- all was written
-    pub trying_recording : (caller : ℕ) → (IsTrue old.honest → HasBytes new.bytes s.journal.shape addresses bytes) → (answer : Reply) → answer ≡ reply → Trying first t0 new s b (changes.Rope next) change effect caller (calls.Record take) answer
-    trying_recording caller has answer answers = record {
+    pub trying_recording : (caller : ℕ) → (IsTrue old.honest → HasBytes new.bytes s.journal.shape addresses bytes) → (IsTrue old.honest → IsPadded new.bytes s.journal.shape addresses (length bytes)) → (answer : Reply) → answer ≡ reply → Trying first t0 new s b (changes.Rope next) change effect caller (calls.Record take) answer
+    trying_recording caller has padded answer answers = record {
       fill = later;
-      upright = upright_later;
+      upright = upright_later (all_filled has padded);
       sure = h.makes.sure;
       in_journal = tables_then.in_journal;
       held = h.makes.stood.held;
@@ -244,7 +298,7 @@ module _ (first : State) (t0 : ℕ) (old : Told) (s : Inside) (take : Take) (nex
       in_range = tt;
       brings_it = record { spots = later_spots h.makes.stood.fill h.makes.stood.upright.fills.spots last.next bytes; kept = brings_kept };
       does = λ is.
-          let sound = (standing_gives laws new).now first (tapes_of s) t0 s.journal b b s.history.items (moments (to_old is)).is (upright_on.held is) in
+          let sound = (standing_gives laws new).now first (tapes_of s) t0 s.journal b b s.history.items (moments (to_old is)).is (held_now is) in
           ap (λ c. recovered new.bytes (acted b c)) the_change
           ∙ call_does new.bytes b last (tapes_of s) (calls.Record take) addresses effect sound.fills sound.form sound.placed refl
           (count b.shape.block (ap (λ (x : Shape). x.block) in_shape), h.differ, h.spare)
@@ -255,10 +309,9 @@ module _ (first : State) (t0 : ℕ) (old : Told) (s : Inside) (take : Take) (nex
     }
 
     -- a write failed, and the blocks are free again
-    pub stood_unwritten : (caller : ℕ) (parts : Parts) (history : Vec Entry Global) → Runs h.makes.stood.held [] h.makes.stood.takings parts b → history.items ≡ s.history.items ++ entry_of caller (calls.Record take) (replies.No why.DiskFault) new.calls ∷ []
+    pub stood_unwritten : (caller : ℕ) (parts : Parts) (history : Vec Entry Global) → Runs h.makes.stood.held [] h.makes.stood.takings parts b → KeepsAddresses s.parts.blocks.holders parts.blocks.holders → history.items ≡ s.history.items ++ entry_of caller (calls.Record take) (replies.No why.DiskFault) new.calls ∷ []
         → Stood first t0 new (record s { parts = parts; history = history })
-    stood_unwritten caller parts history shows items =
-        let up = upright_on in
+    stood_unwritten caller parts history shows keeps items =
         let back : Stood first t0 new (record s { parts = parts }) = record {
           fill = h.makes.stood.fill;
           b = b;
@@ -266,7 +319,7 @@ module _ (first : State) (t0 : ℕ) (old : Told) (s : Inside) (take : Take) (nex
           held = h.makes.stood.held;
           takings = h.makes.stood.takings;
           holding = h.makes.stood.holding;
-          upright = record { legal = up.legal; valid = up.valid; fills = up.fills; seated = up.seated; acks = up.acks; held = up.held };
+          upright = upright_on parts (back_filled parts keeps shows);
           tables = inl (record { sure = h.makes.sure; in_journal = tables_then.in_journal; in_state = tables_then.in_state; tables = shows; same = refl });
           size = let is = h.makes.stood.size in omega (arith, is, sizes_same);
         } in

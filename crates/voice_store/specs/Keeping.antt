@@ -25,6 +25,7 @@ use Rattle.voice_model.specs.declared.calls.Why.TheVariants as why
 use Rattle.voice_model.specs.declared.calls.Call.{Call}
 use Rattle.edits.specs.Shown.{IsRopeOf, before_journal}
 use Rattle.recovery.specs.declared.parts.Parts.{Parts}
+use Rattle.next_ropes.specs.Addresses.{HandsOut}
 use Rattle.next_ropes.specs.Ready.{IsReady, next_change}
 use Rattle.next_ropes.specs.declared.NextRope.{NextRope}
 use Rattle.voice_store.specs.declared.inside.Inside.{Inside}
@@ -78,3 +79,4 @@ pub record HoldsRecording (first : State) (t0 : ℕ) (disk : Told) (s : Inside) 
   pub differ : all_differ next.addresses.items ≡ true
   pub spare : list_all (is_free_address makes.stood.b) next.addresses.items ≡ true
   pub pieces : next.pieces ≡ pieces_of (spots_from next.id 0 take.len)
+  pub handed : HandsOut makes.stood.b.next before.blocks.holders s.parts.blocks.holders

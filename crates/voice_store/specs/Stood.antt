@@ -6,7 +6,7 @@
 --     ShowsState parts s      the tables show what outlives a crash of the state, while its lanes hold what they hold
 --     IsSeated journal s      the journal's place is that of the state
 --     AcksRise low history high      the moments of the entries never fall, and lie between these
---     Upright      the history is legal (on a disk that isn't honest but for what was read off it), and the disk holds it, whatever the tables show
+--     Upright      the history is legal (on a disk that isn't honest but for what was read off it), the disk holds it, and its blocks have their bytes, whatever ropes the tables show
 --     IsSure, IsUnsure      the tables show the state: nothing is in doubt, or a change is ready to be done
 --     Stood      all of it, but for the count of faults
 use Rattle.std.specs.Prelude.{◌≡◌, ◌⊎◌, ℕ, ◌+◌, ◌≤◌, Bool, true, false, List, [], ◌∷◌, Some, None, IsTrue}
@@ -32,6 +32,7 @@ use Rattle.running_tables.specs.Running.{Runs, passages_of, takings_of}
 use Rattle.recovery.specs.declared.parts.Parts.{Parts}
 use Rattle.next_changes.specs.Next.{IsNext}
 use Rattle.crash_laws.specs.Standing.{IsHeld}
+use Rattle.voice_store.specs.Filled.{IsFilled}
 use Rattle.voice_store.specs.declared.inside.Doubted.{Doubted}
 use Rattle.voice_store.specs.declared.inside.Inside.{Inside}
 
@@ -90,7 +91,7 @@ is_fault_of _ = true
 abbrev pub is_fault : Entry → Bool
 is_fault e = is_fault_of (outcome_of e.reply)
 
--- the history is legal, on a disk that isn't honest but for the talk and peaks that were read off it, and the disk holds it, whatever the tables show
+-- the history is legal, on a disk that isn't honest but for the talk and peaks that were read off it, the disk holds it, and its blocks have their bytes, whatever ropes the tables show
 pub record Upright (first : State) (t0 : ℕ) (disk : Told) (s : Inside) (fill : Spot → Tagged) (b after : Rebuilt) : Type 0 where
   pub legal : LegalOn disk.honest first (tapes_of s) s.history.items
   pub valid : IsState (last_of first s)
@@ -98,6 +99,8 @@ pub record Upright (first : State) (t0 : ℕ) (disk : Told) (s : Inside) (fill :
   pub seated : IsSeated s.journal (last_of first s)
   pub acks : AcksRise t0 s.history.items disk.calls
   pub held : IsTrue disk.honest → IsHeld first (tapes_of s) t0 s.journal disk b after s.history.items
+  -- so has each block that an address is given to, whoever uses it: a live rope, a passage, or a change in doubt
+  pub bytes : IsTrue disk.honest → IsFilled fill s.journal.shape disk.bytes s.parts.blocks.holders
 
 -- nothing is in doubt, and the tables show the state
 pub record IsSure (held : List (List Piece)) (takings : List ℕ) (s : Inside) (b after : Rebuilt) (last : State) : Type 0 where

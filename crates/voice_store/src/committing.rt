@@ -10,6 +10,7 @@ ghost use Rattle.voice_model.specs.Replay.{Rebuilt, acted};
 ghost use Rattle.voice_model.specs.declared.Change.{Change};
 ghost use Rattle.running_tables.specs.Running.{Runs};
 ghost use Rattle.checkpoint.specs.Compact.{ShowsUsed};
+ghost use Rattle.next_ropes.specs.Addresses.{KeepsAddresses};
 ghost use Rattle.next_changes.specs.Next.{IsNext, payload_of};
 ghost use Rattle.voice_store.specs.Stood.{Stood, last_of};
 ghost use Rattle.voice_store.specs.Ways.{FitsBehind, FitsOther};
@@ -74,6 +75,7 @@ impl Inside {
         requires ready { IsReadyIn self.old next }
         requires room { vec_len self.old.history < vec_capacity self.old.history }
         ensures tables { (held : List (List Piece)) (takings : List ℕ) (b : Rebuilt) (c : Change) → IsNext held takings self.old.parts b next c → b.shape ≡ self.old.journal.shape → Runs held [] takings self.new.parts (acted b c) }
+        ensures kept { KeepsAddresses self.old.parts.blocks.holders self.new.parts.blocks.holders }
         ensures items { self.new.history.items ≡ self.old.history.items ++ entry_of caller call reply (D.told disk.now).calls ∷ [] }
         ensures rest { self.new ≡ record self.old { parts = self.new.parts; history = self.new.history } }
     {
@@ -93,6 +95,7 @@ impl Inside {
         requires ready { IsReadyIn self.old next }
         requires room { vec_len self.old.history < vec_capacity self.old.history }
         ensures tables { (held : List (List Piece)) (takings : List ℕ) (b : Rebuilt) (c : Change) → IsNext held takings self.old.parts b next c → Runs held [] takings self.new.parts b }
+        ensures kept { KeepsAddresses self.old.parts.blocks.holders self.new.parts.blocks.holders }
         ensures items { self.new.history.items ≡ self.old.history.items ++ entry_of caller call (Reply.No Why.DiskFault) (D.told disk.now).calls ∷ [] }
         ensures rest { self.new ≡ record self.old { parts = self.new.parts; history = self.new.history } }
         ensures reply { result ≡ Reply.No Why.DiskFault }

@@ -7,6 +7,7 @@ ghost use Rattle.voice_model.specs.Replay.{Rebuilt, acted};
 ghost use Rattle.voice_model.specs.declared.Change.{Change};
 ghost use Rattle.voice_outside.specs.Counters.{HasRisen};
 ghost use Rattle.running_tables.specs.Running.{Runs};
+ghost use Rattle.next_ropes.specs.Addresses.{KeepsAddresses};
 ghost use Rattle.next_changes.specs.Next.{IsNext};
 ghost use Rattle.voice_model.specs.Step.{landed};
 ghost use Rattle.voice_store.specs.Stood.{Stood, in_form, last_of};
@@ -26,6 +27,7 @@ impl Inside {
     fn take_in(&mut self, doubted: Doubted)
         requires { IsReadyIn self.old doubted.next }
         ensures tables { (held : List (List Piece)) (takings : List ℕ) (b : Rebuilt) (c : Change) → IsNext held takings self.old.parts b doubted.next c → b.shape ≡ self.old.journal.shape → Runs held [] takings (in_form b.form self.new.parts) (acted b c) }
+        ensures kept { KeepsAddresses self.old.parts.blocks.holders self.new.parts.blocks.holders }
         ensures form { self.new.parts.form ≡ doubted.form }
         ensures rest { self.new ≡ record self.old { parts = self.new.parts } }
     {

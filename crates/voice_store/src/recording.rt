@@ -14,6 +14,7 @@ ghost use Rattle.recording_writer.specs.Wrote.{WroteAt};
 ghost use Rattle.crash_laws.specs.Standing.{IsLater};
 ghost use Rattle.next_ropes.specs.Ready.{next_change};
 ghost use Rattle.next_ropes.specs.declared.NextRope.{NextRope as RopeValue};
+ghost use Rattle.voice_store.specs.Filled.{IsPadded};
 ghost use Rattle.voice_store.specs.Stood.{Stood, last_of, tapes_of};
 ghost use Rattle.voice_store.specs.Trying.{IsPlan};
 ghost use Rattle.voice_store.specs.DeviceCalls.{change_calls};
@@ -103,6 +104,7 @@ impl Inside {
         ensures moments { IsTrue (D.told disk.old).honest → IsLater (D.told disk.old) (D.told disk.new) }
         ensures content { IsTrue (D.told disk.old).honest → WroteAt self.now.journal.shape next.now.addresses.items (D.told disk.old) (D.told disk.new) }
         ensures written { IsTrue (D.told disk.old).honest → OnOk result (HasBytes (D.told disk.new).bytes self.now.journal.shape next.now.addresses.items (taken (tapes_of self.now) take)) }
+        ensures padded { IsTrue (D.told disk.old).honest → OnOk result (IsPadded (D.told disk.new).bytes self.now.journal.shape next.now.addresses.items (length (taken (tapes_of self.now) take))) }
     {
         disks_are_honest(disk);
         let shape = self.journal.shape();

@@ -8,8 +8,8 @@ use Rattle.next_ropes.proofs.coming.perform.Goals as goal
 pub add_rope-requires-clause-unknown : goal.add_rope-requires-clause-unknown
 add_rope-requires-clause-unknown c = unknown c.requires.0 c.requires.1 c.args.parts.now c.requires.2 c.args.next c.requires.3 c.requires.4
 
-pub returns : goal.returns
-returns c = λ held takings b change h s.
+pub returns-clause-runs : goal.returns-clause-runs
+returns-clause-runs c = λ held takings b change h s.
     let number = h.number in
     let later : b.next ≤ c.args.next.id = omega (arith, number) in
     came held takings c.args.parts.now c.args.parts.now c.add_rope.new.self b c.args.next change h h.runs.kept refl refl c.add_rope.ensures.form (ap (λ blocks. blocks.holders) c.add_rope.ensures.blocks)

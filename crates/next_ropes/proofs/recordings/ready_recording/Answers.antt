@@ -11,6 +11,7 @@ use Rattle.running_tables.proofs.Taken.{first_blocks}
 use Rattle.next_ropes.specs.Ready.{recorded_change}
 use Rattle.next_ropes.specs.Lowest.{AreAddresses, lowest_open}
 use Rattle.next_ropes.proofs.Readied.{taken, no_block_yet, recorded_samples, taken_may, taken_addresses, taken_runs, taken_grammar, recording_ready}
+use Rattle.next_ropes.proofs.HandedOut.{take_hands, taken_back}
 use Rattle.next_ropes.proofs.recordings.ready_recording.Goals as goal
 
 pub take-taken-requires-clause-fits : goal.take-taken-requires-clause-fits
@@ -99,3 +100,12 @@ returns-clause-lowest c =
     let addresses = lowest_open count old.blocks.holders in
     c.in-Ok.ensures.addresses addresses (subst (λ i. AreAddresses c.take-taken.new.self.holders i count addresses) (sym h.kept.next) (taken_addresses by.held by.takings old new b count c.args.len is))
     ∙ ap (λ n. lowest_open n old.blocks.holders) c.blocks_needed-count.ensures
+
+pub returns-clause-own : goal.returns-clause-own
+returns-clause-own c =
+    take_hands c.args.parts.now.next c.blocks_needed-count.result c.take-taken.result c.args.parts.now.blocks.holders c.make_room.new.parts.blocks.holders c.take-taken.new.self.holders c.make_room.ensures.holders c.take-taken.ensures.holders
+
+pub returns-in_default-clause-none : goal.returns-in_default-clause-none
+returns-in_default-clause-none c =
+    let hands = take_hands c.args.parts.now.next c.blocks_needed-count.result c.take-taken.result c.args.parts.now.blocks.holders c.make_room.new.parts.blocks.holders c.take-taken.new.self.holders c.make_room.ensures.holders c.take-taken.ensures.holders in
+    taken_back c.args.parts.now.next c.args.parts.now.blocks.holders c.take-taken.new.self.holders c.drop_owner.new.self.holders hands c.drop_owner.ensures.holders

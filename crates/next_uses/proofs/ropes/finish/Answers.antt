@@ -10,7 +10,7 @@ pub returns-then-comes : goal.returns-then-comes
 returns-then-comes c =
     let b = c.requires.0 in
     let change = c.requires.1 in
-    record { what = acted b change; runs = c.perform.ensures [] [] b change c.requires.2 c.requires.3; in_shape = acted_shape b change ∙ c.requires.3 }
+    record { what = acted b change; runs = c.perform.ensures.runs [] [] b change c.requires.2 c.requires.3; in_shape = acted_shape b change ∙ c.requires.3 }
 
 pub returns-else-comes : goal.returns-else-comes
-returns-else-comes c = record { what = c.requires.0; runs = c.give_back.ensures [] [] c.requires.0 c.requires.1 c.requires.2; in_shape = c.requires.3 }
+returns-else-comes c = record { what = c.requires.0; runs = c.give_back.ensures.runs [] [] c.requires.0 c.requires.1 c.requires.2; in_shape = c.requires.3 }

@@ -26,7 +26,7 @@ returns-in_err-why-clause-stood g c = λ first t0 stood.
     let last = last_of first s in
     let tables = told first t0 disk s stood c.requires.sure in
     let shows = asked_on first t0 disk s stood c.requires.sure c.ask.new.parts (c.ask.ensures.same stood.held stood.b.kept tables.kept) c.ask.ensures.form c.ask.ensures.blocks in
-    stood_on first t0 disk s stood c.requires.sure c.ask.new.parts shows
+    stood_on first t0 disk s stood c.requires.sure c.ask.new.parts shows c.ask.ensures.blocks
 
 pub returns-in_err-replies-in-Answered-clause-stood : goal.returns-in_err-replies-in-Answered-clause-stood
 returns-in_err-replies-in-Answered-clause-stood g c = λ first t0 stood.
@@ -35,7 +35,7 @@ returns-in_err-replies-in-Answered-clause-stood g c = λ first t0 stood.
     let last = last_of first s in
     let tables = told first t0 disk s stood c.requires.sure in
     let shows = asked_on first t0 disk s stood c.requires.sure c.ask.new.parts (c.ask.ensures.same stood.held stood.b.kept tables.kept) c.ask.ensures.form c.ask.ensures.blocks in
-    stood_on first t0 disk s stood c.requires.sure c.ask.new.parts shows
+    stood_on first t0 disk s stood c.requires.sure c.ask.new.parts shows c.ask.ensures.blocks
 
 pub returns-in_err-replies-in-Changes-clause-stood : goal.returns-in_err-replies-in-Changes-clause-stood
 returns-in_err-replies-in-Changes-clause-stood g c = λ first t0 stood.
@@ -44,7 +44,7 @@ returns-in_err-replies-in-Changes-clause-stood g c = λ first t0 stood.
     let last = last_of first s in
     let tables = told first t0 disk s stood c.requires.sure in
     let shows = asked_on first t0 disk s stood c.requires.sure c.ask.new.parts (c.ask.ensures.same stood.held stood.b.kept tables.kept) c.ask.ensures.form c.ask.ensures.blocks in
-    stood_on first t0 disk s stood c.requires.sure c.ask.new.parts shows
+    stood_on first t0 disk s stood c.requires.sure c.ask.new.parts shows c.ask.ensures.blocks
 
 pub returns-in-Refused-clause-cause : goal.returns-in-Refused-clause-cause
 returns-in-Refused-clause-cause g c = λ fault.
@@ -71,7 +71,7 @@ returns-in-Refused-clause-stood g c = λ first t0 stood.
     let graces = ap (λ (x : Shape). x.graces) (stood.upright.seated.shape ∙ sym c.shape.ensures) in
     let asked = c.in_ok-why.ensures.asked stood.held stood.fill stood.b last (tapes_of s) stood.upright.fills.spots tables stood.upright.fills.kept stood.upright.fills.form stood.upright.valid graces in
     let is = subst (λ (a : Asked). IsAsked c.ask.new.parts stood.b last (tapes_of s) c.args.call a) c.in-Refused.is asked in
-    c.refuse.ensures.stood first t0 (stood_on first t0 disk s stood c.requires.sure c.ask.new.parts shows) (nothing_lands last c.args.call (is_sure first t0 disk s stood c.requires.sure).in_state)
+    c.refuse.ensures.stood first t0 (stood_on first t0 disk s stood c.requires.sure c.ask.new.parts shows c.ask.ensures.blocks) (nothing_lands last c.args.call (is_sure first t0 disk s stood c.requires.sure).in_state)
     (journal_last.early last (tapes_of s) c.args.call c.in-Refused.why is)
 
 pub returns-in_ok-replies-in-Answered-clause-cause : goal.returns-in_ok-replies-in-Answered-clause-cause
@@ -87,7 +87,7 @@ returns-in_ok-replies-in-Answered-clause-cause g c = λ fault.
     let graces = ap (λ (x : Shape). x.graces) (stood.upright.seated.shape ∙ sym c.shape.ensures) in
     let asked = c.in_ok-why.ensures.asked stood.held stood.fill stood.b last (tapes_of s) stood.upright.fills.spots tables stood.upright.fills.kept stood.upright.fills.form stood.upright.valid graces in
     let is = subst (λ (a : Asked). IsAsked c.ask.new.parts stood.b last (tapes_of s) c.args.call a) c.in-Answered.is asked in
-    absurd (plain_reply first t0 disk s stood c.requires.sure c.ask.new.parts shows c.args.call c.requires.alters c.requires.range c.in-Answered.reply c.in_ok-replies-in-Answered.replies.1 c.in_ok-replies-in-Answered.ensures.second is.2
+    absurd (plain_reply first t0 disk s stood c.requires.sure c.ask.new.parts shows c.ask.ensures.blocks c.args.call c.requires.alters c.requires.range c.in-Answered.reply c.in_ok-replies-in-Answered.replies.1 c.in_ok-replies-in-Answered.ensures.second is.2
     (subst IsFault c.answer.ensures.reply fault))
 
 pub returns-in_ok-replies-in-Answered-clause-stood : goal.returns-in_ok-replies-in-Answered-clause-stood
@@ -100,8 +100,8 @@ returns-in_ok-replies-in-Answered-clause-stood g c = λ first t0 stood.
     let graces = ap (λ (x : Shape). x.graces) (stood.upright.seated.shape ∙ sym c.shape.ensures) in
     let asked = c.in_ok-why.ensures.asked stood.held stood.fill stood.b last (tapes_of s) stood.upright.fills.spots tables stood.upright.fills.kept stood.upright.fills.form stood.upright.valid graces in
     let is = subst (λ (a : Asked). IsAsked c.ask.new.parts stood.b last (tapes_of s) c.args.call a) c.in-Answered.is asked in
-    c.answer.ensures.stood first t0 (stood_on first t0 disk s stood c.requires.sure c.ask.new.parts shows)
-    (answers first t0 disk s stood c.requires.sure c.ask.new.parts shows c.args.call c.requires.alters c.requires.range c.args.caller c.in-Answered.reply c.in_ok-replies-in-Answered.replies.0 c.in_ok-replies-in-Answered.ensures.first is.0 is.1 is.2)
+    c.answer.ensures.stood first t0 (stood_on first t0 disk s stood c.requires.sure c.ask.new.parts shows c.ask.ensures.blocks)
+    (answers first t0 disk s stood c.requires.sure c.ask.new.parts shows c.ask.ensures.blocks c.args.call c.requires.alters c.requires.range c.args.caller c.in-Answered.reply c.in_ok-replies-in-Answered.replies.0 c.in_ok-replies-in-Answered.ensures.first is.0 is.1 is.2)
 
 pub send-requires-clause-alters : goal.send-requires-clause-alters
 send-requires-clause-alters g c κs within =
@@ -116,7 +116,7 @@ send-requires-clause-alters g c κs within =
     let graces = ap (λ (x : Shape). x.graces) (stood.upright.seated.shape ∙ sym c.shape.ensures) in
     let asked = c.in_ok-why.ensures.asked stood.held stood.fill stood.b last (tapes_of s) stood.upright.fills.spots tables stood.upright.fills.kept stood.upright.fills.form stood.upright.valid graces in
     let is = subst (λ (a : Asked). IsAsked c.ask.new.parts stood.b last (tapes_of s) c.args.call a) c.in-Changes.is asked in
-    (first, t0, alters first t0 disk s stood c.requires.sure c.ask.new.parts shows c.args.call c.requires.alters c.requires.range c.in-Changes.ready c.in-Changes.reply c.in_ok-replies-in-Changes.replies.0 c.in-Changes.growth c.in_ok-replies-in-Changes.ensures.first is)
+    (first, t0, alters first t0 disk s stood c.requires.sure c.ask.new.parts shows c.ask.ensures.blocks c.args.call c.requires.alters c.requires.range c.in-Changes.ready c.in-Changes.reply c.in_ok-replies-in-Changes.replies.0 c.in-Changes.growth c.in_ok-replies-in-Changes.ensures.first is)
 
 pub send-requires-clause-plain : goal.send-requires-clause-plain
 send-requires-clause-plain g c κs within =
@@ -131,7 +131,7 @@ send-requires-clause-plain g c κs within =
     let graces = ap (λ (x : Shape). x.graces) (stood.upright.seated.shape ∙ sym c.shape.ensures) in
     let asked = c.in_ok-why.ensures.asked stood.held stood.fill stood.b last (tapes_of s) stood.upright.fills.spots tables stood.upright.fills.kept stood.upright.fills.form stood.upright.valid graces in
     let is = subst (λ (a : Asked). IsAsked c.ask.new.parts stood.b last (tapes_of s) c.args.call a) c.in-Changes.is asked in
-    plain_reply first t0 disk s stood c.requires.sure c.ask.new.parts shows c.args.call c.requires.alters c.requires.range c.in-Changes.reply c.in_ok-replies-in-Changes.replies.1 c.in_ok-replies-in-Changes.ensures.second is.replied
+    plain_reply first t0 disk s stood c.requires.sure c.ask.new.parts shows c.ask.ensures.blocks c.args.call c.requires.alters c.requires.range c.in-Changes.reply c.in_ok-replies-in-Changes.replies.1 c.in_ok-replies-in-Changes.ensures.second is.replied
 
 pub returns-in_ok-replies-in-Changes-clause-stood : goal.returns-in_ok-replies-in-Changes-clause-stood
 returns-in_ok-replies-in-Changes-clause-stood g c = λ first t0 stood.
@@ -143,7 +143,7 @@ returns-in_ok-replies-in-Changes-clause-stood g c = λ first t0 stood.
     let graces = ap (λ (x : Shape). x.graces) (stood.upright.seated.shape ∙ sym c.shape.ensures) in
     let asked = c.in_ok-why.ensures.asked stood.held stood.fill stood.b last (tapes_of s) stood.upright.fills.spots tables stood.upright.fills.kept stood.upright.fills.form stood.upright.valid graces in
     let is = subst (λ (a : Asked). IsAsked c.ask.new.parts stood.b last (tapes_of s) c.args.call a) c.in-Changes.is asked in
-    c.send.ensures.stood first t0 (alters first t0 disk s stood c.requires.sure c.ask.new.parts shows c.args.call c.requires.alters c.requires.range c.in-Changes.ready c.in-Changes.reply c.in_ok-replies-in-Changes.replies.0 c.in-Changes.growth c.in_ok-replies-in-Changes.ensures.first is)
+    c.send.ensures.stood first t0 (alters first t0 disk s stood c.requires.sure c.ask.new.parts shows c.ask.ensures.blocks c.args.call c.requires.alters c.requires.range c.in-Changes.ready c.in-Changes.reply c.in_ok-replies-in-Changes.replies.0 c.in-Changes.growth c.in_ok-replies-in-Changes.ensures.first is)
 
 pub returns-in_err-why-clause-spare : goal.returns-in_err-why-clause-spare
 returns-in_err-why-clause-spare g c = λ first t0 stood takes fits. no_err c.ask.result _ c.in_err-why.was (c.ask.ensures.spare takes)
@@ -171,7 +171,7 @@ returns-in_ok-replies-in-Changes-clause-spare g c = λ first t0 stood takes fits
     let brief = subst IsBrief c.in-Changes.is (c.in_ok-why.ensures.brief takes) in
     c.send.ensures.spare brief.1
     (fits_rest first t0 disk (record s { parts = c.ask.new.parts }) c.args.call c.in-Changes.ready c.in_ok-replies-in-Changes.replies.0 c.in-Changes.growth
-    (alters first t0 disk s stood c.requires.sure c.ask.new.parts shows c.args.call c.requires.alters c.requires.range c.in-Changes.ready c.in-Changes.reply c.in_ok-replies-in-Changes.replies.0 c.in-Changes.growth c.in_ok-replies-in-Changes.ensures.first is) fits)
+    (alters first t0 disk s stood c.requires.sure c.ask.new.parts shows c.ask.ensures.blocks c.args.call c.requires.alters c.requires.range c.in-Changes.ready c.in-Changes.reply c.in_ok-replies-in-Changes.replies.0 c.in-Changes.growth c.in_ok-replies-in-Changes.ensures.first is) fits)
 
 pub returns-in_ok-replies-in-Changes-clause-calls : goal.returns-in_ok-replies-in-Changes-clause-calls
 returns-in_ok-replies-in-Changes-clause-calls g c = λ first t0 stood.
@@ -183,4 +183,4 @@ returns-in_ok-replies-in-Changes-clause-calls g c = λ first t0 stood.
     let graces = ap (λ (x : Shape). x.graces) (stood.upright.seated.shape ∙ sym c.shape.ensures) in
     let asked = c.in_ok-why.ensures.asked stood.held stood.fill stood.b last (tapes_of s) stood.upright.fills.spots tables stood.upright.fills.kept stood.upright.fills.form stood.upright.valid graces in
     let is = subst (λ (a : Asked). IsAsked c.ask.new.parts stood.b last (tapes_of s) c.args.call a) c.in-Changes.is asked in
-    c.send.ensures.calls first t0 (alters first t0 disk s stood c.requires.sure c.ask.new.parts shows c.args.call c.requires.alters c.requires.range c.in-Changes.ready c.in-Changes.reply c.in_ok-replies-in-Changes.replies.0 c.in-Changes.growth c.in_ok-replies-in-Changes.ensures.first is)
+    c.send.ensures.calls first t0 (alters first t0 disk s stood c.requires.sure c.ask.new.parts shows c.ask.ensures.blocks c.args.call c.requires.alters c.requires.range c.in-Changes.ready c.in-Changes.reply c.in_ok-replies-in-Changes.replies.0 c.in-Changes.growth c.in_ok-replies-in-Changes.ensures.first is)

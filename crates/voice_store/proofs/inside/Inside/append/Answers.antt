@@ -42,7 +42,7 @@ returns-in-Ok-clause-stood g c =
     let payload : c.payload.result.now ≡ payload_of c.args.next = c.payload.ensures.bytes in
     appended_stood first t0 old new s s' b c.args.next c' effect c.args.caller c.args.call c.args.replies.0 tr made.later made.size made.honest moments c.payload.result.now payload fits
     (ap (λ (x : Inside). x.tapes) rest)
-    c.done.ensures.items
+    c.done.ensures.items c.append.ensures.bytes c.done.ensures.kept
     (ap (λ (j : JournalValue). j.shape) (on_journal ∙ journal))
     (ap (λ (j : JournalValue). j.seat) (on_journal ∙ journal))
     (ap (λ (j : JournalValue). j.doubt) (on_journal ∙ journal) ∙ tr.in_journal)
@@ -72,7 +72,7 @@ returns-in-Err-Before-clause-stood g c =
     let on_journal : s'.journal ≡ c.append.new.self = ap (λ (x : Inside). x.journal) rest in
     failed_stood first t0 old new s s' b c.args.next c' effect c.args.caller c.args.call c.args.replies.0 tr made.later made.size made.honest moments
     (ap (λ (x : Inside). x.tapes) rest)
-    c.failed.ensures.items
+    c.failed.ensures.items c.append.ensures.bytes c.failed.ensures.kept
     (ap (λ (j : JournalValue). j.shape) (on_journal ∙ journal))
     (ap (λ (j : JournalValue). j.seat) (on_journal ∙ journal))
     (ap (λ (j : JournalValue). j.doubt) (on_journal ∙ journal) ∙ tr.in_journal)
@@ -105,7 +105,7 @@ returns-clause-stood g c =
     append_waits first t0 old new s s' b c.args.next c' effect c.args.caller c.args.call c.args.replies.0 tr made.later made.size made.honest moments c.payload.result.now payload fits
     doubted refl refl
     (ap (λ (x : Inside). x.tapes) rest)
-    c.wait.ensures.items
+    c.wait.ensures.items c.append.ensures.bytes
     (ap (λ (j : JournalValue). j.shape) (on_journal ∙ journal))
     (ap (λ (j : JournalValue). j.seat) (on_journal ∙ journal))
     (ap (λ (j : JournalValue). j.doubt) (on_journal ∙ journal))

@@ -6,6 +6,7 @@ use Rattle.voice_store.specs.Stood.{last_of}
 use Rattle.voice_store.proofs.Kept.{same_parts, same_shape, tables, many, long, used, held_few, trying}
 use Rattle.voice_model.specs.Replay.{acted}
 use Rattle.voice_store.proofs.Counted.{edited_within}
+use Rattle.voice_store.proofs.Filled.{same_addresses}
 use Rattle.voice_store.proofs.Going.{can_go}
 use Rattle.voice_store.proofs.inside.Inside.keep_by.Goals as goal
 
@@ -34,7 +35,7 @@ returns-in_err-rope-clause-stood g c = λ first t0 way.
     let s = c.args.self.now in
     let disk = g.D.Disk.told c.args.disk.now in
     same_parts first t0 disk s way.makes.stood way.makes.sure c.ready_edit.new.parts
-    (c.ready_edit.ensures.same way.makes.stood.held way.makes.stood.takings way.makes.stood.b (tables first t0 disk s c.args.call c.args.pieces c.args.way way))
+    (c.ready_edit.ensures.same way.makes.stood.held way.makes.stood.takings way.makes.stood.b (tables first t0 disk s c.args.call c.args.pieces c.args.way way)) (same_addresses s.parts.blocks.holders c.ready_edit.new.parts.blocks.holders c.ready_edit.ensures.holders)
 
 pub plan-requires : goal.plan-requires
 plan-requires g c =
@@ -57,7 +58,8 @@ returns-in_default-clause-stood g c = λ first t0 way.
     let disk = g.D.Disk.told c.args.disk.now in
     let b = way.makes.stood.b in
     same_parts first t0 disk s way.makes.stood way.makes.sure c.give_back.new.parts
-    (c.give_back.ensures way.makes.stood.held way.makes.stood.takings b (kinds.Edited b.next c.args.pieces) (c.in_ok-rope.ensures.ready way.makes.stood.held way.makes.stood.takings b (tables first t0 disk s c.args.call c.args.pieces c.args.way way) (held_few first t0 disk s c.args.call c.args.pieces c.args.way way)))
+    (c.give_back.ensures.runs way.makes.stood.held way.makes.stood.takings b (kinds.Edited b.next c.args.pieces) (c.in_ok-rope.ensures.ready way.makes.stood.held way.makes.stood.takings b (tables first t0 disk s c.args.call c.args.pieces c.args.way way) (held_few first t0 disk s c.args.call c.args.pieces c.args.way way)))
+    (λ a holder had. same_addresses s.parts.blocks.holders c.ready_edit.new.parts.blocks.holders c.ready_edit.ensures.holders a holder (c.give_back.ensures.kept a holder had))
 
 pub commit-requires-clause-can : goal.commit-requires-clause-can
 commit-requires-clause-can g c κs within =
@@ -70,7 +72,7 @@ commit-requires-clause-can g c κs within =
     let ready = c.in_ok-rope.ensures.ready way.makes.stood.held way.makes.stood.takings b (tables first t0 disk s c.args.call c.args.pieces c.args.way way) (held_few first t0 disk s c.args.call c.args.pieces c.args.way way) in
     let made = Edited (last_of first s).next way.makes.rope.samples in
     can_go first t0 disk (record s { parts = c.ready_edit.new.parts }) b (changes.Rope c.in_ok-rope.rope) (kinds.Edited b.next c.args.pieces) made c.args.caller c.args.call c.replies_of-replies.result.0
-    (trying first t0 disk s c.args.call c.args.pieces c.args.way way c.foundations.ensures c.disks_are_honest.ensures c.args.caller c.ready_edit.new.parts c.in_ok-rope.rope ready c.replies_of-replies.result.0 c.replies_of-replies.ensures.first)
+    (trying first t0 disk s c.args.call c.args.pieces c.args.way way c.foundations.ensures c.disks_are_honest.ensures c.args.caller c.ready_edit.new.parts (same_addresses s.parts.blocks.holders c.ready_edit.new.parts.blocks.holders c.ready_edit.ensures.holders) c.in_ok-rope.rope ready c.replies_of-replies.result.0 c.replies_of-replies.ensures.first)
     (subst (λ n. n ≤ 2 ^ 48) c.epoch-most.ensures.value c.epoch-most.ensures.most)
     c.in-Ok.plan (c.in-Ok.ensures way.makes.stood.held way.makes.stood.takings b (kinds.Edited b.next c.args.pieces) (last_of first s) made ready (same_shape first t0 disk s way.makes.stood way.makes.sure) way.goes way.free)
 
@@ -97,7 +99,7 @@ returns-clause-stood g c = λ first t0 way.
     let ready = c.in_ok-rope.ensures.ready way.makes.stood.held way.makes.stood.takings b (tables first t0 disk s c.args.call c.args.pieces c.args.way way) (held_few first t0 disk s c.args.call c.args.pieces c.args.way way) in
     let made = Edited (last_of first s).next way.makes.rope.samples in
     c.commit.ensures.stood first t0 b (kinds.Edited b.next c.args.pieces) made
-    (trying first t0 disk s c.args.call c.args.pieces c.args.way way c.foundations.ensures c.disks_are_honest.ensures c.args.caller c.ready_edit.new.parts c.in_ok-rope.rope ready c.replies_of-replies.result.0 c.replies_of-replies.ensures.first)
+    (trying first t0 disk s c.args.call c.args.pieces c.args.way way c.foundations.ensures c.disks_are_honest.ensures c.args.caller c.ready_edit.new.parts (same_addresses s.parts.blocks.holders c.ready_edit.new.parts.blocks.holders c.ready_edit.ensures.holders) c.in_ok-rope.rope ready c.replies_of-replies.result.0 c.replies_of-replies.ensures.first)
     (c.in-Ok.ensures way.makes.stood.held way.makes.stood.takings b (kinds.Edited b.next c.args.pieces) (last_of first s) made ready (same_shape first t0 disk s way.makes.stood way.makes.sure) way.goes way.free)
 
 pub returns-clause-calls : goal.returns-clause-calls

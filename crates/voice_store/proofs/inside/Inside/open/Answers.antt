@@ -71,7 +71,8 @@ returns-clause-state g c =
       first_of old.bytes opening.journal b,
       stood_first t0 old.bytes new s b opening.payloads.items items here tables refl facts.sure from within facts.moment size
           (λ h. let honest = to_old h in let reads = facts.reads honest in
-          first_held (tapes_of s) t0 old.bytes new opening b same rebuilds (honest_now honest) facts.moment (facts.since honest) reads.0 reads.1 law),
+          first_held (tapes_of s) t0 old.bytes new opening b same rebuilds (honest_now honest) facts.moment (facts.since honest) reads.0 reads.1 law)
+          (λ h. (looks.still (to_old h)).bytes),
       λ honest.
           let reads = facts.reads honest in
           opens_as_first (tapes_of s) t0 old.bytes new opening b same rebuilds (honest_now honest) facts.moment (facts.since honest) reads.0 reads.1 law,

@@ -6,7 +6,9 @@ use Rattle.voice_store.specs.Stood.{last_of, tapes_of}
 use Rattle.voice_store.specs.Keeping.{recorded_by}
 use Rattle.voice_store.proofs.Kept.{is_sure, same_parts, same_shape, stood_few as held_few}
 use Rattle.voice_store.proofs.Fewer.{long, enough}
-use Rattle.voice_store.proofs.Written.{change_in, holding}
+use Rattle.next_ropes.specs.Addresses.{HandsOut}
+use Rattle.voice_store.proofs.Filled.{never_handed}
+use Rattle.voice_store.proofs.Written.{change_in, holding, handed_on}
 use Rattle.voice_store.proofs.inside.Inside.record_by.Goals as goal
 
 pub ready_recording-requires-clause-parts : goal.ready_recording-requires-clause-parts
@@ -39,7 +41,7 @@ returns-in_err-rope-clause-stood g c = λ first t0 way.
     let s = c.args.self.now in
     let disk = g.D.Disk.told c.args.disk.now in
     same_parts first t0 disk s way.makes.stood way.makes.sure c.ready_recording.new.parts
-    (c.in_err-rope.ensures.err way.makes.stood.held way.makes.stood.takings way.makes.stood.b (is_sure first t0 disk s way.makes.stood way.makes.sure).tables)
+    (c.in_err-rope.ensures.err way.makes.stood.held way.makes.stood.takings way.makes.stood.b (is_sure first t0 disk s way.makes.stood way.makes.sure).tables) c.in_err-rope.ensures.none
 
 pub plan-requires : goal.plan-requires
 plan-requires g c =
@@ -64,8 +66,9 @@ returns-in_default-clause-stood g c = λ first t0 way.
     let b = way.makes.stood.b in
     let tables = (is_sure first t0 disk s way.makes.stood way.makes.sure).tables in
     let shape = same_shape first t0 disk s way.makes.stood way.makes.sure in
-    same_parts first t0 disk s way.makes.stood way.makes.sure c.give_back.new.parts
-    (c.give_back.ensures way.makes.stood.held way.makes.stood.takings b (change_in b c.in_ok-rope.rope) (c.in_ok-rope.ensures.ready way.makes.stood.held way.makes.stood.takings b tables (held_few first t0 disk s way.makes.stood) (shape ∙ sym c.shape-shape.ensures)).0)
+    let shows = c.give_back.ensures.runs way.makes.stood.held way.makes.stood.takings b (change_in b c.in_ok-rope.rope) (c.in_ok-rope.ensures.ready way.makes.stood.held way.makes.stood.takings b tables (held_few first t0 disk s way.makes.stood) (shape ∙ sym c.shape-shape.ensures)).0 in
+    same_parts first t0 disk s way.makes.stood way.makes.sure c.give_back.new.parts shows
+    (never_handed way.makes.stood.held way.makes.stood.takings b s.parts.blocks.holders c.ready_recording.new.parts.blocks.holders c.give_back.new.parts (subst (λ n. HandsOut n s.parts.blocks.holders c.ready_recording.new.parts.blocks.holders) tables.kept.next c.in_ok-rope.ensures.own) c.give_back.ensures.kept shows)
 
 pub write_and_commit-requires-clause-holds : goal.write_and_commit-requires-clause-holds
 write_and_commit-requires-clause-holds g c κs within =
@@ -83,7 +86,7 @@ write_and_commit-requires-clause-holds g c κs within =
       first,
       t0,
       holding first t0 disk s c.args.take c.args.way way c.ready_recording.new.parts next ready.0 c.in_ok-rope.ensures.recorded
-          (ready.1 ∙ ap (λ (x : Shape). blocks_for x.block c.args.take.len) c.shape-shape.ensures) ready.2 ready.3 ready.4,
+          (ready.1 ∙ ap (λ (x : Shape). blocks_for x.block c.args.take.len) c.shape-shape.ensures) ready.2 ready.3 ready.4 (handed_on first t0 disk s c.args.take c.args.way way c.ready_recording.new.parts c.in_ok-rope.ensures.own),
       c.in-Ok.ensures way.makes.stood.held way.makes.stood.takings b (change_in b next) (last_of first s) (recorded_by (last_of first s) (tapes_of s) c.args.take) ready.0 shape way.goes way.free,
     )
 
@@ -97,7 +100,7 @@ returns-clause-stood g c = λ first t0 way.
     let next = c.in_ok-rope.rope in
     c.write_and_commit.ensures.stood next refl first t0
     (holding first t0 disk s c.args.take c.args.way way c.ready_recording.new.parts next ready.0 c.in_ok-rope.ensures.recorded
-    (ready.1 ∙ ap (λ (x : Shape). blocks_for x.block c.args.take.len) c.shape-shape.ensures) ready.2 ready.3 ready.4)
+    (ready.1 ∙ ap (λ (x : Shape). blocks_for x.block c.args.take.len) c.shape-shape.ensures) ready.2 ready.3 ready.4 (handed_on first t0 disk s c.args.take c.args.way way c.ready_recording.new.parts c.in_ok-rope.ensures.own))
     (c.in-Ok.ensures way.makes.stood.held way.makes.stood.takings b (change_in b next) (last_of first s) (recorded_by (last_of first s) (tapes_of s) c.args.take) ready.0 shape way.goes way.free)
 
 pub returns-clause-calls : goal.returns-clause-calls
@@ -110,5 +113,5 @@ returns-clause-calls g c = λ first t0 way.
     let next = c.in_ok-rope.rope in
     c.write_and_commit.ensures.calls next refl first t0
     (holding first t0 disk s c.args.take c.args.way way c.ready_recording.new.parts next ready.0 c.in_ok-rope.ensures.recorded
-    (ready.1 ∙ ap (λ (x : Shape). blocks_for x.block c.args.take.len) c.shape-shape.ensures) ready.2 ready.3 ready.4)
+    (ready.1 ∙ ap (λ (x : Shape). blocks_for x.block c.args.take.len) c.shape-shape.ensures) ready.2 ready.3 ready.4 (handed_on first t0 disk s c.args.take c.args.way way c.ready_recording.new.parts c.in_ok-rope.ensures.own))
     (c.in-Ok.ensures way.makes.stood.held way.makes.stood.takings b (change_in b next) (last_of first s) (recorded_by (last_of first s) (tapes_of s) c.args.take) ready.0 shape way.goes way.free)

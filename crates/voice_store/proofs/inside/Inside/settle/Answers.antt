@@ -33,7 +33,7 @@ returns-then-is_err-clause-stood g c =
     let some : is_none s.doubt ≡ false = search rules in
     let unsure = unsure_by stood.fill stood.held stood.takings s stood.b stood.after (last_of first s) some stood.tables in
     stood_not_landed first t0 old new s s stood unsure made.later made.size made.honest moments (landings_carry c.foundations.ensures old new) c.land.new.self
-    (on_err c.land.result _ failed c.land.ensures.failed_state)
+    (on_err c.land.result _ failed c.land.ensures.failed_state) c.land.ensures.bytes
     (λ h. ((λ r p stands. on_err c.land.result _ failed (c.land.ensures.failed h r p stands)), c.land.ensures.crash h))
 
 pub take_in-requires : goal.take_in-requires
@@ -78,7 +78,7 @@ returns-clause-stood g c =
     let items : s'.history.items ≡ s.history.items ++ landing_at new.calls ∷ [] =
     c.enter.ensures.items ∙ ap (λ (l : List Entry). l ++ landing_at c.calls.result ∷ []) on_same ∙ ap (λ (n : ℕ). s.history.items ++ landing_at n ∷ []) now in
     stood_landed first t0 old new s s' stood unsure made.later made.size made.honest moments (landings_carry c.foundations.ensures old new)
-    (ap (λ (x : Inside). x.tapes) rest) items (ap (λ (x : Inside). x.journal) rest ∙ journal) (ap (λ (x : Inside). x.doubt) rest ∙ taken)
+    (ap (λ (x : Inside). x.tapes) rest) items c.land.ensures.bytes c.take_in.ensures.kept (ap (λ (x : Inside). x.journal) rest ∙ journal) (ap (λ (x : Inside). x.doubt) rest ∙ taken)
     (c.take_in.ensures.form ∙ ap (λ (d : Doubted). d.form) (sym same)) tables
     (λ h. (
       subst (λ (j : JournalValue). Lands s.journal j old new) (sym (ap (λ (x : Inside). x.journal) rest))

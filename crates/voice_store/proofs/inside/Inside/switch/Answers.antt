@@ -49,7 +49,7 @@ returns-in-Ok-clause-stood g c =
     let on_journal : s'.journal ≡ c.switch.new.self = ap (λ (x : Inside). x.journal) rest in
     switched_stood first t0 old new s s' b c.args.next c' effect c.args.caller c.args.call c.args.replies.0 tr made.later made.size made.honest moments c.args.base.now is_base fits c.requires.fits
     (ap (λ (x : Inside). x.tapes) rest)
-    c.done.ensures.items
+    c.done.ensures.items c.switch.ensures.bytes c.done.ensures.kept
     (ap (λ (j : JournalValue). j.shape) (on_journal ∙ journal))
     (ap (λ (j : JournalValue). j.seat) (on_journal ∙ journal))
     (ap (λ (j : JournalValue). j.doubt) (on_journal ∙ journal) ∙ tr.in_journal)
@@ -81,7 +81,7 @@ returns-in-Err-Before-clause-stood g c =
     let on_journal : s'.journal ≡ c.switch.new.self = ap (λ (x : Inside). x.journal) rest in
     failed_stood first t0 old new s s' b c.args.next c' effect c.args.caller c.args.call c.args.replies.0 tr made.later made.size made.honest moments
     (ap (λ (x : Inside). x.tapes) rest)
-    c.failed.ensures.items
+    c.failed.ensures.items c.switch.ensures.bytes c.failed.ensures.kept
     (ap (λ (j : JournalValue). j.shape) (on_journal ∙ journal))
     (ap (λ (j : JournalValue). j.seat) (on_journal ∙ journal))
     (ap (λ (j : JournalValue). j.doubt) (on_journal ∙ journal) ∙ tr.in_journal)
@@ -113,7 +113,7 @@ returns-clause-stood g c =
     switch_waits first t0 old new s s' b c.args.next c' effect c.args.caller c.args.call c.args.replies.0 tr made.later made.size made.honest moments c.args.base.now is_base fits c.requires.fits
     doubted refl refl
     (ap (λ (x : Inside). x.tapes) rest)
-    c.wait.ensures.items
+    c.wait.ensures.items c.switch.ensures.bytes
     (ap (λ (j : JournalValue). j.shape) (on_journal ∙ journal))
     (ap (λ (j : JournalValue). j.seat) (on_journal ∙ journal))
     (ap (λ (j : JournalValue). j.doubt) (on_journal ∙ journal))

@@ -35,7 +35,7 @@ returns-in_default-written-clause-stood g c = λ other is first t0 held plan.
     subst (λ (x : Inside). Stood first t0 new x) (sym c.failed.ensures.rest)
     (stood_unwritten first t0 old s c.args.take rope h new c.foundations.ensures made.later made.size made.honest
     c.write_recording-written.ensures.moments c.write_recording-written.ensures.content c.args.caller s'.parts s'.history
-    (c.failed.ensures.tables h.makes.stood.held h.makes.stood.takings h.makes.stood.b (change_in h.makes.stood.b rope) h.ready) c.failed.ensures.items)
+    (c.failed.ensures.tables h.makes.stood.held h.makes.stood.takings h.makes.stood.b (change_in h.makes.stood.b rope) h.ready) c.failed.ensures.kept c.failed.ensures.items)
 
 pub commit-requires-clause-can : goal.commit-requires-clause-can
 commit-requires-clause-can g c κs within =
@@ -51,7 +51,7 @@ commit-requires-clause-can g c κs within =
     let b = goes.0.makes.stood.b in
     can_go first t0 new s b (changes.Rope rope) (change_in b rope) (recorded_by (last_of first s) (tapes_of s) c.args.take) c.args.caller (calls.Record c.args.take) c.replies_of-replies.result.0
     (trying_recording first t0 old s c.args.take rope goes.0 new c.foundations.ensures made.later made.size made.honest
-    c.write_recording-written.ensures.moments c.write_recording-written.ensures.content c.args.caller c.in-Ok.ensures.written c.replies_of-replies.result.0 c.replies_of-replies.ensures.first)
+    c.write_recording-written.ensures.moments c.write_recording-written.ensures.content c.args.caller c.in-Ok.ensures.written c.in-Ok.ensures.padded c.replies_of-replies.result.0 c.replies_of-replies.ensures.first)
     (subst (λ n. n ≤ 2 ^ 48) c.epoch-most.ensures.value c.epoch-most.ensures.most)
     c.args.plan goes.1
 
@@ -73,7 +73,7 @@ returns-clause-stood g c = λ other is first t0 held plan.
     let b = goes.0.makes.stood.b in
     c.commit.ensures.stood first t0 b (change_in b rope) (recorded_by (last_of first s) (tapes_of s) c.args.take)
     (trying_recording first t0 old s c.args.take rope goes.0 new c.foundations.ensures made.later made.size made.honest
-    c.write_recording-written.ensures.moments c.write_recording-written.ensures.content c.args.caller c.in-Ok.ensures.written c.replies_of-replies.result.0 c.replies_of-replies.ensures.first)
+    c.write_recording-written.ensures.moments c.write_recording-written.ensures.content c.args.caller c.in-Ok.ensures.written c.in-Ok.ensures.padded c.replies_of-replies.result.0 c.replies_of-replies.ensures.first)
     goes.1
 
 pub returns-in_default-written-clause-calls : goal.returns-in_default-written-clause-calls

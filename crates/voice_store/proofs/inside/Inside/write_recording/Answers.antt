@@ -4,7 +4,7 @@ use Rattle.recording_writer.specs.Runs.{writes_for}
 use Rattle.voice_model.specs.Tapes.{taken}
 use Rattle.voice_store.specs.Stood.{tapes_of}
 use Rattle.voice_units.specs.Blocks.{blocks_for}
-use Rattle.voice_store.proofs.Fewer.{made_fewer, has_bytes}
+use Rattle.voice_store.proofs.Fewer.{made_fewer, has_bytes, is_padded}
 use Rattle.voice_store.proofs.Written.{distinct}
 use Rattle.voice_store.proofs.inside.Inside.write_recording.Goals as goal
 
@@ -28,3 +28,11 @@ returns-clause-written g c = λ is.
     c.samples-samples.result.now (taken (tapes_of s) c.args.take) c.shape-shape.ensures c.deref-2.ensures.value
     (c.samples-samples.ensures ∙ ap (λ (ts : List (List ℕ)). taken ts c.args.take) c.deref.ensures)
     (c.write_samples-result.ensures.written is)
+
+pub returns-clause-padded : goal.returns-clause-padded
+returns-clause-padded g c = λ is.
+    let s = c.args.self.now in
+    is_padded c.write_samples-result.result (g.D.Disk.told c.write_samples-result.new.disk).bytes c.shape-shape.result s.journal.shape c.deref-2.result.now c.args.next.now.addresses.items
+    c.samples-samples.result.now (taken (tapes_of s) c.args.take) c.shape-shape.ensures c.deref-2.ensures.value
+    (c.samples-samples.ensures ∙ ap (λ (ts : List (List ℕ)). taken ts c.args.take) c.deref.ensures)
+    (c.write_samples-result.ensures.padded is)
