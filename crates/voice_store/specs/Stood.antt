@@ -99,7 +99,7 @@ pub record Upright (first : State) (t0 : ℕ) (disk : Told) (s : Inside) (fill :
   pub seated : IsSeated s.journal (last_of first s)
   pub acks : AcksRise t0 s.history.items disk.calls
   pub held : IsTrue disk.honest → IsHeld first (tapes_of s) t0 s.journal disk b after s.history.items
-  -- so has each block that an address is given to, whoever uses it: a live rope, a passage, or a change in doubt
+  -- and each block that has an address has its bytes there, whoever uses it: a live rope, a held passage, or a change in doubt
   pub bytes : IsTrue disk.honest → IsFilled fill s.journal.shape disk.bytes s.parts.blocks.holders
 
 -- nothing is in doubt, and the tables show the state
