@@ -12,11 +12,11 @@ voice: a voice manager. It runs a script of calls, and prints one line for each.
   voice format       formats the disk anew, and forgets what it has; options, each with a
                      number: --block 4096, --blocks 15000, --area 1048576, --grace 86400,
                      --lanes 8 (the defaults); --held, --until, --listed: of that class
+  voice notes INDEX  a census of the keys that the index's notes name as [[voice:KEY]]
   voice import AU FILE, voice export FILE AU: samples out of an AU file, or into one
-  voice --help       prints this; voice --version prints the version
+  voice --help, voice --version: this, and the version
 
-The disk is the file voice.disk of the current folder; where there is none it is
-made and formatted. A script has a line for each call, and comments (#):
+The disk is voice.disk there, made and formatted where absent. A script: # comments, calls:
   CALLER [VARIABLE =] record FILE                     CALLER retain CLASS KEY ROPE NOTE
   CALLER [VARIABLE =] concat ROPE ..                  CALLER forget CLASS KEY
   CALLER [VARIABLE =] sub ROPE START LEN              CALLER census KEY ..
@@ -26,7 +26,7 @@ made and formatted. A script has a line for each call, and comments (#):
 CALLER is 1 to 16, FILE a file of the folder (8,000 one-byte mu-law samples a second),
 ROPE a variable or number, CLASS held, until or listed; docs/SCRIPT.md tells the rest.
 
-Exit status: 0 done, 2 bad words or shape, 3 a line of the script is refused, 4 a file
-is absent, 5 the folder failed, 6 the output failed, 7 the disk is damaged, 8 the disk
-failed, 9 no memory, 10 no AU file of mu-law at 8,000. The cause is on standard error.
+Exit status: 0 done, 2 bad words or shape, 3 a bad line of the script, 4 no such file, 5 the
+folder failed, 6 the output, 7 a damaged disk, 8 the disk failed, 9 no memory, 10 no AU file
+of mu-law at 8,000, 11 a bad index, 12 a bad note, 13 too many keys; standard error tells.
 ";

@@ -14,7 +14,7 @@ use Rattle.voice_store.specs.Shown.{Stands}
 use Rattle.script_lang.specs.declared.scripts.Line.{Line}
 use Rattle.script_lang.specs.Shown.{Reading}
 use Rattle.voice_main.specs.declared.status.Status.{Status}
-use Rattle.voice_main.specs.declared.status.Status.TheVariants.{Done, Usage, BadShape, BadScript, NoFile, ShelfFault, SinkFault, BadDisk, DiskFault, NoMemory, BadAu}
+use Rattle.voice_main.specs.declared.status.Status.TheVariants.{Done, Usage, BadShape, BadScript, NoFile, ShelfFault, SinkFault, BadDisk, DiskFault, NoMemory, BadAu, BadIndex, BadNote, TooManyKeys}
 use Rattle.voice_main.specs.Ordered.{InOrder, asked_entries, unset}
 use Rattle.voice_model.specs.Heard.{LegalOn}
 use Rattle.voice_main.specs.Ran.{IsReady, IsThere, OnDisk, Begun, Made, Performed, RanSoFar, RanWhole}
@@ -66,6 +66,9 @@ printed sink old new ShelfFault h = absurd h
 printed sink old new (BadDisk place) h = absurd h
 printed sink old new DiskFault h = absurd h
 printed sink old new (BadAu name cause) h = absurd h
+printed sink old new (BadIndex line) h = absurd h
+printed sink old new (BadNote note place) h = absurd h
+printed sink old new (TooManyKeys count) h = absurd h
 
 pub printed_aloud : (sink : Type 0) (status : Status) → Prints sink status → IsSilent status → ⊥
 printed_aloud sink Done h quiet = quiet
@@ -79,6 +82,9 @@ printed_aloud sink ShelfFault h quiet = h
 printed_aloud sink (BadDisk place) h quiet = h
 printed_aloud sink DiskFault h quiet = h
 printed_aloud sink (BadAu name cause) h quiet = h
+printed_aloud sink (BadIndex line) h quiet = h
+printed_aloud sink (BadNote note place) h quiet = h
+printed_aloud sink (TooManyKeys count) h quiet = h
 
 pub stopped_opening : (sink : Type 0) (old new : Told) (status : Status) → Opens old new status → Performs sink old new status
 stopped_opening sink old new Done h = absurd h
@@ -92,6 +98,9 @@ stopped_opening sink old new ShelfFault h = h
 stopped_opening sink old new (BadDisk place) h = h
 stopped_opening sink old new DiskFault h = h
 stopped_opening sink old new (BadAu name cause) h = h
+stopped_opening sink old new (BadIndex line) h = h
+stopped_opening sink old new (BadNote note place) h = h
+stopped_opening sink old new (TooManyKeys count) h = h
 
 there_of : (told : Option Files) (name : List ℕ) (script : Reading) (tapes : List (List ℕ)) → IfSome told (λ files. IsReady files name script tapes) → IfSome told (λ files. IsThere files name)
 there_of None name script tapes ready = tt
@@ -116,6 +125,9 @@ comes_ready threads name told a b c d disk new script tapes history ShelfFault r
 comes_ready threads name told a b c d disk new script tapes history (BadDisk place) ready which done fault = (which, there_of told name script tapes ready)
 comes_ready threads name told a b c d disk new script tapes history DiskFault ready which done fault = (which, there_of told name script tapes ready)
 comes_ready threads name told a b c d disk new script tapes history (BadAu other cause) ready which done fault = absurd which
+comes_ready threads name told a b c d disk new script tapes history (BadIndex line) ready which done fault = absurd which
+comes_ready threads name told a b c d disk new script tapes history (BadNote note place) ready which done fault = absurd which
+comes_ready threads name told a b c d disk new script tapes history (TooManyKeys count) ready which done fault = absurd which
 
 so_far_from : (threads : Bool) (told : Option Files) (name : List ℕ) (script : Reading) (tapes : List (List ℕ)) (old new : Told) (history : List Entry) → IfSome told (λ files. IsReady files name script tapes)
     → (k : ℕ) × Performed tapes (Begun threads tapes script k history) old new history → IfSome told (λ files. RanSoFar threads files name old new history)

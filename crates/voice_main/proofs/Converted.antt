@@ -14,7 +14,7 @@ use Rattle.voice_main.specs.declared.convert.Way.TheVariants as ways
 use Rattle.voice_main.specs.declared.load.LoadError.{LoadError}
 use Rattle.voice_main.specs.declared.load.LoadError.TheVariants as load
 use Rattle.voice_main.specs.declared.status.Status.{Status}
-use Rattle.voice_main.specs.declared.status.Status.TheVariants.{Done, Usage, BadShape, BadScript, NoFile, ShelfFault, SinkFault, BadDisk, DiskFault, NoMemory, BadAu}
+use Rattle.voice_main.specs.declared.status.Status.TheVariants.{Done, Usage, BadShape, BadScript, NoFile, ShelfFault, SinkFault, BadDisk, DiskFault, NoMemory, BadAu, BadIndex, BadNote, TooManyKeys}
 use Rattle.voice_main.specs.Load.{LoadIs}
 use Rattle.voice_main.specs.Statuses.{load_status_of}
 use Rattle.voice_main.specs.Conversions.{IsMade, ConversionComes, BytesCome, PutComes, IsUnset}
@@ -62,6 +62,9 @@ came way source target bytes told mid new shelf risen (NoFile missing) found kep
 came way source target bytes told mid new shelf risen SinkFault found kept rises h = absurd h
 came way source target bytes told mid new shelf risen (BadDisk place) found kept rises h = absurd h
 came way source target bytes told mid new shelf risen DiskFault found kept rises h = absurd h
+came way source target bytes told mid new shelf risen (BadIndex line) found kept rises h = absurd h
+came way source target bytes told mid new shelf risen (BadNote note place) found kept rises h = absurd h
+came way source target bytes told mid new shelf risen (TooManyKeys count) found kept rises h = absurd h
 
 -- the source was not read
 pub unread : (way : Way) (source target : List ℕ) (told new : Option Files) (shelf : Type 0) (e : LoadError) → LoadIs (λ missing. (missing ≡ source) × IfSome told (λ files. get files source ≡ None)) shelf e → ConversionComes way source target told new shelf (load_status_of e)
@@ -84,6 +87,9 @@ put_made way source target bytes out told new shelf SinkFault made set h = absur
 put_made way source target bytes out told new shelf (BadDisk place) made set h = absurd h
 put_made way source target bytes out told new shelf DiskFault made set h = absurd h
 put_made way source target bytes out told new shelf (BadAu name cause) made set h = absurd h
+put_made way source target bytes out told new shelf (BadIndex line) made set h = absurd h
+put_made way source target bytes out told new shelf (BadNote note place) made set h = absurd h
+put_made way source target bytes out told new shelf (TooManyKeys count) made set h = absurd h
 
 -- setting a file is not refused
 pub not_unset : (shelf : Type 0) (status : Status) → PutComes shelf status → IsUnset status → ⊥
@@ -98,6 +104,9 @@ not_unset shelf SinkFault h unset = unset
 not_unset shelf (BadDisk place) h unset = unset
 not_unset shelf DiskFault h unset = unset
 not_unset shelf (BadAu name cause) h unset = h
+not_unset shelf (BadIndex line) h unset = h
+not_unset shelf (BadNote note place) h unset = h
+not_unset shelf (TooManyKeys count) h unset = h
 
 -- a file of samples is read back
 pub exported : (bytes out : List ℕ) → ReadsBack → out ≡ file_of bytes → IsMade ways.Export bytes out

@@ -11,7 +11,7 @@ use Rattle.voice_model.specs.Image as image
 use Rattle.voice_model.specs.State.{State}
 use Rattle.voice_store.specs.Stood.{is_fault}
 use Rattle.voice_main.specs.declared.status.Status.{Status}
-use Rattle.voice_main.specs.declared.status.Status.TheVariants.{Done, Usage, BadShape, BadScript, NoFile, ShelfFault, SinkFault, BadDisk, DiskFault, NoMemory, BadAu}
+use Rattle.voice_main.specs.declared.status.Status.TheVariants.{Done, Usage, BadShape, BadScript, NoFile, ShelfFault, SinkFault, BadDisk, DiskFault, NoMemory, BadAu, BadIndex, BadNote, TooManyKeys}
 use Rattle.script_lang.specs.Shown.{Reading}
 use Rattle.script_lang.specs.Verbs.{is_built_verb}
 use Rattle.script_lang.specs.Grammar.{IsScript}
@@ -91,13 +91,13 @@ one_no_file files name x y (inr v) (inr w) =
 
 -- ---- the disk
 
-one_place : (bytes : List ℕ) (a b : ℕ) → image.reading bytes ≡ image.Reading.Bad a → image.reading bytes ≡ image.Reading.Bad b → a ≡ b
+pub one_place : (bytes : List ℕ) (a b : ℕ) → image.reading bytes ≡ image.Reading.Bad a → image.reading bytes ≡ image.Reading.Bad b → a ≡ b
 one_place bytes a b p q = let e : image.Reading.Bad a ≡ image.Reading.Bad b = sym p ∙ q in cc
 
-read_not_bad : (disk : Told) (place : ℕ) → IsRead disk → image.reading disk.bytes ≡ image.Reading.Bad place → ⊥
+pub read_not_bad : (disk : Told) (place : ℕ) → IsRead disk → image.reading disk.bytes ≡ image.Reading.Bad place → ⊥
 read_not_bad disk place r bad = let e : image.Reading.Reads r.journal r.rebuilt ≡ image.Reading.Bad place = sym r.reads ∙ bad in cc
 
-opened_not_bad : (bytes : List ℕ) (first : State) (place : ℕ) → image.opened_from bytes ≡ Some first → image.reading bytes ≡ image.Reading.Bad place → ⊥
+pub opened_not_bad : (bytes : List ℕ) (first : State) (place : ℕ) → image.opened_from bytes ≡ Some first → image.reading bytes ≡ image.Reading.Bad place → ⊥
 opened_not_bad bytes first place opened bad = let e : Some first ≡ None = sym opened ∙ ap (image.opened_by bytes) bad in cc
 
 exact : (threads : Bool) (name : List ℕ) (files : Files) (a : ℕ) (b : Option (List ℕ)) (c d : ℕ) (disk : Told) (new : Outside) (history : List Entry) (status : Status) → RunComes threads name (outside (Some files) a b c d disk) new history status → IsExact files name disk status
@@ -137,6 +137,24 @@ exact threads name files a b c d disk new history (BadAu other cause) h = record
   bad_disk = absurd h;
   good_disk = absurd h;
 }
+exact threads name files a b c d disk new history (BadIndex line) h = record {
+  bad_script = absurd h;
+  no_file = absurd h;
+  bad_disk = absurd h;
+  good_disk = absurd h;
+}
+exact threads name files a b c d disk new history (BadNote note place) h = record {
+  bad_script = absurd h;
+  no_file = absurd h;
+  bad_disk = absurd h;
+  good_disk = absurd h;
+}
+exact threads name files a b c d disk new history (TooManyKeys count) h = record {
+  bad_script = absurd h;
+  no_file = absurd h;
+  bad_disk = absurd h;
+  good_disk = absurd h;
+}
 exact threads name files a b c d disk new history BadShape h = record {
   bad_script = absurd h;
   no_file = absurd h;
@@ -170,7 +188,7 @@ exact threads name files a b c d disk new history NoMemory h = record {
 
 -- ---- where no count rose
 
-no_faults_at : (low n high : ℕ) → (HasRisen low high → ⊥) → (high < 2 ^ 64 - 1 → low + n ≤ high) → n ≡ 0
+pub no_faults_at : (low n high : ℕ) → (HasRisen low high → ⊥) → (high < 2 ^ 64 - 1 → low + n ≤ high) → n ≡ 0
 no_faults_at low zero high calm covers = refl
 no_faults_at low (suc n) high calm covers = absurd (calm (λ below. let most = covers below in omega (arith, most)))
 
@@ -189,6 +207,9 @@ complete threads name files a b c d disk new history status h so_far later = λ 
     by BadShape h there honest read calm dry still = absurd h
     by Usage h there honest read calm dry still = absurd h
     by (BadAu other cause) h there honest read calm dry still = absurd h
+    by (BadIndex line) h there honest read calm dry still = absurd h
+    by (BadNote note place) h there honest read calm dry still = absurd h
+    by (TooManyKeys count) h there honest read calm dry still = absurd h
     by (BadScript n) h there honest read calm dry still = absurd (ready_not_bad files name there.script there.tapes n there.ready h)
     by (NoFile x) h there honest read calm dry still = absurd (ready_not_absent files name there.script there.tapes x there.ready h)
     by (BadDisk place) h there honest read calm dry still = absurd (read_not_bad disk place read (h.0 honest))
@@ -212,6 +233,9 @@ stopped threads name told a b c d disk new history SinkFault h = absurd h
 stopped threads name told a b c d disk new history (BadDisk place) h = absurd h
 stopped threads name told a b c d disk new history DiskFault h = absurd h
 stopped threads name told a b c d disk new history (BadAu other cause) h = absurd h
+stopped threads name told a b c d disk new history (BadIndex line) h = absurd h
+stopped threads name told a b c d disk new history (BadNote note place) h = absurd h
+stopped threads name told a b c d disk new history (TooManyKeys count) h = absurd h
 stopped threads name told a b c d disk new history NoMemory h = tt
 
 -- a run that ended before it touched the disk

@@ -123,7 +123,7 @@ nobody_on true s tapes caller call reply h is = by_nobody s tapes caller call re
 nobody_on false s tapes caller call reply h is = by_nobody s tapes caller call h.right h.answer is
 
 -- the first entry, and the later ones
-parts : (honest : Bool) (s : State) (tapes : List (List ℕ)) (e : Entry) (es : List Entry) → LegalOn honest s tapes (e ∷ es) → IsAnswerOn honest s tapes e × LegalOn honest (state_after s tapes e) tapes es
+pub parts : (honest : Bool) (s : State) (tapes : List (List ℕ)) (e : Entry) (es : List Entry) → LegalOn honest s tapes (e ∷ es) → IsAnswerOn honest s tapes e × LegalOn honest (state_after s tapes e) tapes es
 parts true s tapes e es legal = legal
 parts false s tapes e es legal = legal
 

@@ -17,3 +17,6 @@ pub mod Said
 pub mod Converted
 pub mod ConversionExact
 pub mod Asked
+pub mod Noted
+pub mod Verdicts
+pub mod Counted

@@ -7,7 +7,7 @@ use Rattle.voice_model.specs.declared.calls.Entry.{Entry}
 use Rattle.voice_main.specs.declared.options.FormatNumbers.{FormatNumbers}
 use Rattle.voice_main.specs.declared.status.Status.{Status}
 use Rattle.voice_main.specs.declared.status.Status.TheVariants.{Done, Usage, NoMemory}
-use Rattle.voice_main.specs.Words.{Command, Says, run_command, IsSerial, IsThreaded, IsFormat, IsConversion, IsRefused, IsNoRun, IsNoFormat, IsNoConversion}
+use Rattle.voice_main.specs.Words.{Command, Says, run_command, IsSerial, IsThreaded, IsFormat, IsConversion, IsNotes, IsRefused, IsNoRun, IsNoFormat, IsNoConversion, IsNoNotes}
 use Rattle.voice_main.specs.declared.convert.Way.{Way}
 use Rattle.voice_main.specs.declared.convert.Way.TheVariants as ways
 use Rattle.voice_main.specs.Conversions.{way_word}
@@ -15,6 +15,7 @@ use Rattle.voice_main.specs.Outside.{Outside}
 use Rattle.voice_main.specs.RunPromise.{RunPromise}
 use Rattle.voice_main.specs.FormatPromise.{FormatPromise}
 use Rattle.voice_main.specs.ConversionPromise.{ConversionPromise}
+use Rattle.voice_main.specs.NotesPromise.{NotesPromise}
 use Rattle.voice_main.specs.Promises.{Promises, Comes}
 
 -- `--threads` names no file
@@ -85,11 +86,37 @@ same_way words ways.Export ways.Export s t u v p q = let e : codes "export" ∷ 
 same_way words ways.Import ways.Export s t u v p q = absurd (false≢true (sym (ap (begins (codes "import")) (sym p ∙ q))))
 same_way words ways.Export ways.Import s t u v p q = absurd (false≢true (sym (ap (begins (codes "export")) (sym p ∙ q))))
 
-pub refused_by : (words : List (List ℕ)) → IsNoRun words → IsNoFormat words → IsNoConversion words → IsRefused words
-refused_by words run format convert (Command.Run name) = run false name
-refused_by words run format convert (Command.RunThreads name) = run true name
-refused_by words run format convert (Command.Format numbers) = format numbers
-refused_by words run format convert (Command.Convert way source target) = convert way source target
+-- words that ask for a census of notes
+run_not_notes_from : (rest others : List (List ℕ)) → codes "run" ∷ rest ≡ codes "notes" ∷ others → ⊥
+run_not_notes_from rest others e = false≢true (sym (ap (begins (codes "run")) e))
+
+run_not_notes : (threads : Bool) (words : List (List ℕ)) (name index : List ℕ) → Says words (run_command threads name) → IsNotes words index → ⊥
+run_not_notes false words name index r q = run_not_notes_from (name ∷ []) (index ∷ []) (sym r.form ∙ q.form)
+run_not_notes true words name index r q = by r.form
+  where
+    by : (words ≡ codes "run" ∷ name ∷ codes "--threads" ∷ []) ⊎ (words ≡ codes "run" ∷ codes "--threads" ∷ name ∷ []) → ⊥
+    by (inl e) = run_not_notes_from (name ∷ codes "--threads" ∷ []) (index ∷ []) (sym e ∙ q.form)
+    by (inr e) = run_not_notes_from (codes "--threads" ∷ name ∷ []) (index ∷ []) (sym e ∙ q.form)
+
+format_not_notes : (words : List (List ℕ)) (numbers : FormatNumbers) (index : List ℕ) → IsFormat words numbers → IsNotes words index → ⊥
+format_not_notes words numbers index f q = false≢true (sym (ap (begins (codes "format")) (sym f.form ∙ q.form)))
+
+way_not_notes : (way : Way) (rest others : List (List ℕ)) → way_word way ∷ rest ≡ codes "notes" ∷ others → ⊥
+way_not_notes ways.Import rest others e = false≢true (sym (ap (begins (codes "import")) e))
+way_not_notes ways.Export rest others e = false≢true (sym (ap (begins (codes "export")) e))
+
+conversion_not_notes : (words : List (List ℕ)) (way : Way) (source target index : List ℕ) → IsConversion way words source target → IsNotes words index → ⊥
+conversion_not_notes words way source target index p q = way_not_notes way (source ∷ target ∷ []) (index ∷ []) (sym p.form ∙ q.form)
+
+same_index : (words : List (List ℕ)) (a b : List ℕ) → IsNotes words a → IsNotes words b → a ≡ b
+same_index words a b p q = let e : codes "notes" ∷ a ∷ [] ≡ codes "notes" ∷ b ∷ [] = sym p.form ∙ q.form in cc
+
+pub refused_by : (words : List (List ℕ)) → IsNoRun words → IsNoFormat words → IsNoConversion words → IsNoNotes words → IsRefused words
+refused_by words run format convert notes (Command.Run name) = run false name
+refused_by words run format convert notes (Command.RunThreads name) = run true name
+refused_by words run format convert notes (Command.Format numbers) = format numbers
+refused_by words run format convert notes (Command.Convert way source target) = convert way source target
+refused_by words run format convert notes (Command.Notes index) = notes index
 
 -- the promise of the run that the words say is that of whatever command they say
 pub run_only : (threads : Bool) (words : List (List ℕ)) (name : List ℕ) (old new : Outside) (status : Status) (history : List Entry) → Says words (run_command threads name) → RunPromise threads name old new status history → (command : Command) → Says words command → Promises command old new status history
@@ -99,16 +126,18 @@ run_only false words name old new status history p h (Command.RunThreads b) q = 
 run_only true words name old new status history p h (Command.RunThreads b) q = subst (λ n. RunPromise true n old new status history) (same_threaded words name b p q) h
 run_only threads words name old new status history p h (Command.Format numbers) q = absurd (not_both threads words name numbers p q)
 run_only threads words name old new status history p h (Command.Convert way source target) q = absurd (run_not_conversion threads words name way source target p q)
+run_only threads words name old new status history p h (Command.Notes index) q = absurd (run_not_notes threads words name index p q)
 
 pub run_comes : (threads : Bool) (words : List (List ℕ)) (name : List ℕ) (old new : Outside) (status : Status) (history : List Entry) → Says words (run_command threads name) → RunPromise threads name old new status history → Comes words old new status history
 run_comes false words name old new status history p h = inr (Command.Run name, p, h)
 run_comes true words name old new status history p h = inr (Command.RunThreads name, p, h)
 
-pub format_only : (words : List (List ℕ)) (old new : Outside) (status : Status) (history : List Entry) → IsNoRun words → IsNoConversion words → ((numbers : FormatNumbers) → IsFormat words numbers → FormatPromise numbers old new status history) → (command : Command) → Says words command → Promises command old new status history
-format_only words old new status history none other h (Command.Run b) q = absurd (none false b q)
-format_only words old new status history none other h (Command.RunThreads b) q = absurd (none true b q)
-format_only words old new status history none other h (Command.Format numbers) q = h numbers q
-format_only words old new status history none other h (Command.Convert way source target) q = absurd (other way source target q)
+pub format_only : (words : List (List ℕ)) (old new : Outside) (status : Status) (history : List Entry) → IsNoRun words → IsNoConversion words → IsNoNotes words → ((numbers : FormatNumbers) → IsFormat words numbers → FormatPromise numbers old new status history) → (command : Command) → Says words command → Promises command old new status history
+format_only words old new status history none other notes h (Command.Run b) q = absurd (none false b q)
+format_only words old new status history none other notes h (Command.RunThreads b) q = absurd (none true b q)
+format_only words old new status history none other notes h (Command.Format numbers) q = h numbers q
+format_only words old new status history none other notes h (Command.Convert way source target) q = absurd (other way source target q)
+format_only words old new status history none other notes h (Command.Notes index) q = absurd (notes index q)
 
 pub format_comes : (words : List (List ℕ)) (numbers : FormatNumbers) (old new : Outside) (status : Status) (history : List Entry) → IsFormat words numbers → FormatPromise numbers old new status history → Comes words old new status history
 format_comes words numbers old new status history p h = inr (Command.Format numbers, p, h)
@@ -118,6 +147,7 @@ pub conversion_only : (way : Way) (words : List (List ℕ)) (source target : Lis
 conversion_only way words source target old new status history p h (Command.Run b) q = absurd (run_not_conversion false words b way source target q p)
 conversion_only way words source target old new status history p h (Command.RunThreads b) q = absurd (run_not_conversion true words b way source target q p)
 conversion_only way words source target old new status history p h (Command.Format numbers) q = absurd (format_not_conversion words numbers way source target q p)
+conversion_only way words source target old new status history p h (Command.Notes index) q = absurd (conversion_not_notes words way source target index p q)
 conversion_only way words source target old new status history p h (Command.Convert other s t) q =
     let same = same_way words way other source target s t p.form q.form in
     let at_way = subst (λ w. ConversionPromise w source target old new status history) same.0 h in
@@ -127,11 +157,23 @@ conversion_only way words source target old new status history p h (Command.Conv
 pub conversion_comes : (way : Way) (words : List (List ℕ)) (source target : List ℕ) (old new : Outside) (status : Status) (history : List Entry) → IsConversion way words source target → ConversionPromise way source target old new status history → Comes words old new status history
 conversion_comes way words source target old new status history p h = inr (Command.Convert way source target, p, h)
 
+-- the promise of the census that the words ask for is that of whatever command they say
+pub notes_only : (words : List (List ℕ)) (index : List ℕ) (old new : Outside) (status : Status) (history : List Entry) → IsNotes words index → NotesPromise index old new status history → (command : Command) → Says words command → Promises command old new status history
+notes_only words index old new status history p h (Command.Run b) q = absurd (run_not_notes false words b index q p)
+notes_only words index old new status history p h (Command.RunThreads b) q = absurd (run_not_notes true words b index q p)
+notes_only words index old new status history p h (Command.Format numbers) q = absurd (format_not_notes words numbers index q p)
+notes_only words index old new status history p h (Command.Convert way source target) q = absurd (conversion_not_notes words way source target index q p)
+notes_only words index old new status history p h (Command.Notes b) q = subst (λ n. NotesPromise n old new status history) (same_index words index b p q) h
+
+pub notes_comes : (words : List (List ℕ)) (index : List ℕ) (old new : Outside) (status : Status) (history : List Entry) → IsNotes words index → NotesPromise index old new status history → Comes words old new status history
+notes_comes words index old new status history p h = inr (Command.Notes index, p, h)
+
 aloud : (command : Command) (old new : Outside) (history : List Entry) → Promises command old new Usage history → ⊥
 aloud (Command.Run name) old new history h = h.comes
 aloud (Command.RunThreads name) old new history h = h.comes
 aloud (Command.Format numbers) old new history h = h.comes
 aloud (Command.Convert way source target) old new history h = h.comes
+aloud (Command.Notes index) old new history h = h.comes
 
 -- usage comes exactly where the words are refused
 pub usage_of : (words : List (List ℕ)) (old new : Outside) (status : Status) (history : List Entry) → Comes words old new status history → IsRefused words → status ≡ Usage

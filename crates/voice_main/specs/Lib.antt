@@ -8,6 +8,8 @@ pub mod RunPromise
 pub mod FormatPromise
 pub mod Conversions
 pub mod ConversionPromise
+pub mod Notes
+pub mod NotesPromise
 pub mod Promises
 pub mod Statuses
 pub mod Commands

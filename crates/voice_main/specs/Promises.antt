@@ -10,6 +10,7 @@ use Rattle.voice_main.specs.Outside.{Outside}
 use Rattle.voice_main.specs.RunPromise.{RunPromise}
 use Rattle.voice_main.specs.FormatPromise.{FormatPromise}
 use Rattle.voice_main.specs.ConversionPromise.{ConversionPromise}
+use Rattle.voice_main.specs.NotesPromise.{NotesPromise}
 
 -- the promise of each command
 abbrev pub Promises : Command → Outside → Outside → Status → List Entry → Type 0
@@ -17,6 +18,7 @@ Promises (Command.Run name) = RunPromise false name
 Promises (Command.RunThreads name) = RunPromise true name
 Promises (Command.Format numbers) = FormatPromise numbers
 Promises (Command.Convert way source target) = ConversionPromise way source target
+Promises (Command.Notes index) = NotesPromise index
 
 -- the words are refused, or they say a command, whose promise holds
 abbrev pub Comes : List (List ℕ) → Outside → Outside → Status → List Entry → Type 0

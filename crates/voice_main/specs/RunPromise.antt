@@ -21,7 +21,7 @@ use Rattle.script_lang.specs.Verbs.{is_built_verb}
 use Rattle.script_lang.specs.Grammar.{IsScript}
 use Rattle.script_lang.specs.Causes.{FirstBad}
 use Rattle.voice_main.specs.declared.status.Status.{Status}
-use Rattle.voice_main.specs.declared.status.Status.TheVariants.{Done, Usage, BadShape, BadScript, NoFile, ShelfFault, SinkFault, BadDisk, DiskFault, NoMemory, BadAu}
+use Rattle.voice_main.specs.declared.status.Status.TheVariants.{Done, Usage, BadShape, BadScript, NoFile, ShelfFault, SinkFault, BadDisk, DiskFault, NoMemory, BadAu, BadIndex, BadNote, TooManyKeys}
 use Rattle.voice_main.specs.Load.{FirstAbsent}
 use Rattle.voice_main.specs.Outside.{Outside, ShelfFaulted, SinkFaulted, DiskFaulted, IsUnchanged}
 use Rattle.voice_main.specs.Ran.{IsThere, RanSoFar, RanWhole}
@@ -62,6 +62,9 @@ RunComes threads name old new history SinkFault = SinkFaulted old new × IfSome 
 RunComes threads name old new history Usage = ⊥
 RunComes threads name old new history BadShape = ⊥
 RunComes threads name old new history (BadAu other cause) = ⊥
+RunComes threads name old new history (BadIndex line) = ⊥
+RunComes threads name old new history (BadNote note place) = ⊥
+RunComes threads name old new history (TooManyKeys count) = ⊥
 RunComes threads name old new history (BadScript n) = IfSome old.files (λ files. IsBadScript files name n)
 RunComes threads name old new history (NoFile missing) = IfSome old.files (λ files. IsNoFile files name missing)
 RunComes threads name old new history ShelfFault = ShelfFaulted old new

@@ -14,7 +14,9 @@ use Rattle.voice_journal.specs.declared.errors.OpenError.TheVariants as opening
 use Rattle.script_lang.specs.declared.scripts.ScriptError.{ScriptError}
 use Rattle.script_lang.specs.declared.scripts.ScriptError.TheVariants as script
 use Rattle.voice_main.specs.declared.status.Status.{Status}
-use Rattle.voice_main.specs.declared.status.Status.TheVariants.{Done, Usage, BadShape, BadScript, NoFile, ShelfFault, SinkFault, BadDisk, DiskFault, NoMemory, BadAu}
+use Rattle.voice_main.specs.declared.status.Status.TheVariants.{Done, Usage, BadShape, BadScript, NoFile, ShelfFault, SinkFault, BadDisk, DiskFault, NoMemory, BadAu, BadIndex, BadNote, TooManyKeys}
+use Rattle.voice_notes.specs.declared.errors.NoteError.{NoteError}
+use Rattle.voice_notes.specs.declared.errors.NoteError.TheVariants as notes
 use Rattle.voice_main.specs.declared.load.LoadError.{LoadError}
 use Rattle.voice_main.specs.declared.load.LoadError.TheVariants as load
 use Rattle.voice_main.specs.RunPromise.{IsBadScript, IsNoFile, IsDamaged}
@@ -32,6 +34,9 @@ code_of (BadDisk place) = 7
 code_of DiskFault = 8
 code_of NoMemory = 9
 code_of (BadAu name cause) = 10
+code_of (BadIndex n) = 11
+code_of (BadNote name place) = 12
+code_of (TooManyKeys count) = 13
 
 -- why a run ended before it touched the disk
 abbrev pub Stops : List ℕ → Option Files → Type 0 → Status → Type 0
@@ -69,6 +74,9 @@ IsEarly (BadScript n) = Unit {0}
 IsEarly (NoFile name) = Unit {0}
 IsEarly ShelfFault = Unit {0}
 IsEarly (BadAu name cause) = Unit {0}
+IsEarly (BadIndex n) = Unit {0}
+IsEarly (BadNote name place) = Unit {0}
+IsEarly (TooManyKeys count) = Unit {0}
 IsEarly _ = ⊥
 
 -- the statuses that are decided before the first call
@@ -81,6 +89,11 @@ abbrev pub load_status_of : LoadError → Status
 load_status_of (load.NoFile name) = NoFile name
 load_status_of load.ShelfFault = ShelfFault
 load_status_of load.NoMemory = NoMemory
+
+-- the status of a note of that name that is refused
+abbrev pub note_status_of : List ℕ → NoteError → Status
+note_status_of name (notes.BadAnchor place) = BadNote name place
+note_status_of name notes.NoMemory = NoMemory
 
 abbrev pub script_status_of : ScriptError → Status
 script_status_of (script.BadLine n cause) = BadScript n

@@ -10,12 +10,13 @@ use Rattle.voice_main.specs.declared.options.Given.{Given}
 use Rattle.voice_main.specs.declared.options.FormatNumbers.{FormatNumbers}
 use Rattle.voice_main.specs.Options.{none_given, Gives, numbers_of}
 
--- what the words may ask for: a run of a script in its order, or of each caller's lines on a thread of its own; a disk formatted; a file made of another
+-- what the words may ask for: a run of a script in its order, or of each caller's lines on a thread of its own; a disk formatted; a file made of another; a census of the keys that notes name
 pub data Command : Type 0 where
   Run : List ℕ → Command
   RunThreads : List ℕ → Command
   Format : FormatNumbers → Command
   Convert : Way → List ℕ → List ℕ → Command
+  Notes : List ℕ → Command
 
 -- the run of a script, on threads or not
 abbrev pub run_command : Bool → List ℕ → Command
@@ -46,11 +47,17 @@ pub record IsConversion (way : Way) (words : List (List ℕ)) (source target : L
   pub source_file : IsTrue (is_file source)
   pub target_file : IsTrue (is_file target)
 
+-- they are `notes INDEX`
+pub record IsNotes (words : List (List ℕ)) (index : List ℕ) : Type 0 where
+  pub form : words ≡ codes "notes" ∷ index ∷ []
+  pub file : IsTrue (is_file index)
+
 abbrev pub Says : List (List ℕ) → Command → Type 0
 Says words (Command.Run name) = IsSerial words name
 Says words (Command.RunThreads name) = IsThreaded words name
 Says words (Command.Format numbers) = IsFormat words numbers
 Says words (Command.Convert way source target) = IsConversion way words source target
+Says words (Command.Notes index) = IsNotes words index
 
 -- the words ask for nothing that the program knows
 abbrev pub IsRefused : List (List ℕ) → Type 0
@@ -67,3 +74,7 @@ IsNoFormat words = (numbers : FormatNumbers) → IsFormat words numbers → ⊥
 -- they ask for no conversion
 abbrev pub IsNoConversion : List (List ℕ) → Type 0
 IsNoConversion words = (way : Way) (source target : List ℕ) → IsConversion way words source target → ⊥
+
+-- they ask for no census of notes
+abbrev pub IsNoNotes : List (List ℕ) → Type 0
+IsNoNotes words = (index : List ℕ) → IsNotes words index → ⊥

@@ -2,9 +2,11 @@
 #![tactic(auto)]
 
 mod assigned;
+mod census;
 mod convert;
 mod format;
 mod load;
+mod notes;
 mod numbers;
 mod options;
 mod output;

@@ -40,6 +40,15 @@ pub enum Status {
     /// That file is no AU file of the profile, for that cause.
     #[error("voice: {0} is refused, cause {cause}", cause = .1.number())]
     BadAu(Name, AuError),
+    /// That line, counted from 1, is the index's first bad one.
+    #[error("voice: line {0} of the index is refused")]
+    BadIndex(u32),
+    /// At that byte of that note `[[voice:` stands, and no anchor does.
+    #[error("voice: {0} has a bad anchor at byte {1}")]
+    BadNote(Name, u64),
+    /// Notes name so many keys.
+    #[error("voice: {0} keys are too many")]
+    TooManyKeys(u64),
 }
 
 impl Status {
@@ -58,6 +67,9 @@ impl Status {
             Status::DiskFault => 8,
             Status::NoMemory => 9,
             Status::BadAu(_, _) => 10,
+            Status::BadIndex(_) => 11,
+            Status::BadNote(_, _) => 12,
+            Status::TooManyKeys(_) => 13,
         }
     }
 }

@@ -138,6 +138,24 @@ fn faults_are_told(rt: HostRuntime) -> Result<(), Fail> {
     Ok(())
 }
 
+#[test]
+fn notes_are_refused_in_order(rt: HostRuntime) -> Result<(), Fail> {
+    let absent = Status::NoFile(Name::new(b"gone")?);
+    let bad = Status::BadNote(Name::new(b"n")?, 2);
+    // The index `i`, the note `n`, and how the census ends.
+    let cases = [
+        ("n", "x [[voice:]]", bad),
+        ("n\ngone", "x [[voice:]]", absent),
+        ("n\nn gone", "x [[voice:]]", Status::BadIndex(2)),
+    ];
+    for (index, note, status) in cases {
+        let files = [("i", index), ("n", note)];
+        let (ended, _) = shown(&rt, rt.alloc(), &["notes", "i"], &files, &[], &[])?;
+        assert_eq!(rt; ended, status, "{index}");
+    }
+    Ok(())
+}
+
 // The words of a line with one space between two of them.
 fn words_of(alloc: Global, line: &str) -> Result<Vec<String>, Fail> {
     let mut all = Vec::new(alloc);

@@ -3,7 +3,7 @@
 ghost use Rattle.std.specs.Prelude.{ℕ, List, ◌≡◌, [], ◌∷◌, length, MatchOption, map, string_bytes, true, false};
 ghost use Rattle.script_lang.specs.Forms.{is_file};
 ghost use Rattle.voice_main.specs.Conversions.{way_word};
-ghost use Rattle.voice_main.specs.Words.{Says, run_command, IsNoRun, IsConversion, IsNoConversion};
+ghost use Rattle.voice_main.specs.Words.{Says, run_command, IsNoRun, IsConversion, IsNoConversion, IsNotes, IsNoNotes};
 ghost use Rattle.voice_main.specs.declared.convert.Way.{Way as WayValue};
 
 use crate::convert::{Conversion, Way};
@@ -96,6 +96,26 @@ pub fn run_words(words: &[String]) -> Option<RunWords>
         return None;
     };
     run_serial(verb.as_bytes(), name.as_bytes())
+}
+
+// The words `notes INDEX`.
+fn notes_of(verb: &[u8], index: &[u8]) -> Option<Name>
+    ensures { MatchOption result (IsNoNotes (verb.now ∷ index.now ∷ [])) (λ name. IsNotes (verb.now ∷ index.now ∷ []) name) }
+{
+    if verb != b"notes".as_slice() {
+        return None;
+    }
+    file_name(index)
+}
+
+/// The index whose notes the words ask for; `None` exactly for words that ask for none.
+pub fn notes_words(words: &[String]) -> Option<Name>
+    ensures { MatchOption result (IsNoNotes (map string_bytes words.now)) (λ name. IsNotes (map string_bytes words.now) name) }
+{
+    let [verb, index] = words else {
+        return None;
+    };
+    notes_of(verb.as_bytes(), index.as_bytes())
 }
 
 // The way of that word.
