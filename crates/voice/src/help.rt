@@ -22,7 +22,7 @@ The disk is voice.disk there, made and formatted where absent. A script: # comme
   CALLER [VARIABLE =] sub ROPE START LEN              CALLER census KEY ..
   CALLER [VARIABLE =] replace ROPE START LEN OTHER    CALLER advance MOMENT
   CALLER [VARIABLE =] lookup CLASS KEY                CALLER sweep LIMIT
-  CALLER length ROPE
+  CALLER length ROPE, CALLER describe ROPE, CALLER levels ROPE
 CALLER is 1 to 16, FILE a file of the folder (8,000 one-byte mu-law samples a second),
 ROPE a variable or number, CLASS held, until or listed; docs/SCRIPT.md tells the rest.
 
