@@ -1,7 +1,7 @@
-mod Showing
-mod Counting
-mod LetGo
-mod Asked
-mod Addressed
-mod Served
-mod HeldAgain
+pub mod Addressed
+pub mod Asked
+pub mod Counting
+pub mod HeldAgain
+pub mod LetGo
+pub mod Served
+pub mod Showing

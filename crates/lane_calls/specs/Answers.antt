@@ -2,6 +2,7 @@
 --     IsAnswered fill pledged takings b s tapes call reply made parts lanes      nothing refuses the call, it is answered so, and the tables and the lanes stand for the state that it leaves
 --     MayPlay ropes queues lane id start len      a job may come
 --     IsPlayed fill pledged takings b s tapes call made parts lanes played      what a Play comes to
+--     IsJob played      a job came
 --     StaysRefused old lanes new after played      a Play that is refused changes nothing
 --     IsServed fill pledged takings b s tapes call made parts lanes fed      what a Feed comes to
 --     StaysUnfed old lanes new after fed, MayFeed queues lane back      a Feed that is refused changes nothing;  a lane may be fed
@@ -58,6 +59,11 @@ pub record MayPlay (ropes : List Rope) (queues : List (List queue.Job)) (lane id
 abbrev pub IsPlayed : (Spot → Tagged) → List (List Piece) → List ℕ → Rebuilt → State → List (List ℕ) → Call → ℕ → Parts → LanesState → Played → Type 0
 IsPlayed fill pledged takings b s tapes call made parts lanes (Refused why) = refusal s tapes call ≡ Some why
 IsPlayed fill pledged takings b s tapes call made parts lanes (Job id) = (id ≡ made + 1) × IsAnswered fill pledged takings b s tapes call (replies.Job id) (made + 1) parts lanes
+
+-- a job came
+abbrev pub IsJob : Played → Type 0
+IsJob (Refused why) = ⊥
+IsJob (Job id) = Unit {0}
 
 -- a Play that is refused changes nothing
 abbrev pub StaysRefused : Parts → LanesState → Parts → LanesState → Played → Type 0

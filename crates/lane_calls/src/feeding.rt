@@ -4,12 +4,14 @@ ghost use Rattle.std.specs.Prelude.{◌≡◌, ℕ, ◌+◌, ◌≤◌, List, Bo
 ghost use Rattle.voice_units.specs.declared.Piece.{Piece};
 ghost use Rattle.voice_units.specs.Layout.{bytes_needed};
 ghost use Rattle.voice_units.specs.Spots.{Spot};
+ghost use Rattle.voice_units.specs.Blocks.{BlockPair};
 ghost use Rattle.voice_model.specs.Samples.{Tagged};
 ghost use Rattle.voice_model.specs.State.{State};
 ghost use Rattle.voice_model.specs.Step.{refusal};
 ghost use Rattle.voice_model.specs.Replay.{Rebuilt};
 ghost use Rattle.voice_model.specs.declared.calls.Call.TheVariants as calls;
 ghost use Rattle.voice_outside.specs.Counters.{HasRisen};
+ghost use Rattle.rope_table.specs.Table.{uses_at};
 ghost use Rattle.running_tables.specs.Running.{Runs};
 ghost use Rattle.next_ropes.specs.Addresses.{KeepsAddresses};
 ghost use Rattle.frame_pool.specs.Pool.{block_of, spent};
@@ -62,6 +64,10 @@ fn tell<L: Ledger>(
     requires { MayEnd turned parts.old.ropes }
     ensures told { IsTold turned parts.old lanes.old parts.new lanes.new result }
     ensures spare { parts.new.blocks.spare ≡ parts.old.blocks.spare }
+    ensures spare_ropes { parts.new.ropes.spare_ropes ≡ parts.old.ropes.spare_ropes }
+    ensures spare_pairs { parts.old.ropes.spare_pairs ≤ parts.new.ropes.spare_pairs }
+    ensures uses { (q : BlockPair) → uses_at parts.new.ropes q ≤ uses_at parts.old.ropes q }
+    ensures interests { parts.new.interests ≡ parts.old.interests }
     ensures addresses { KeepsAddresses parts.old.blocks.holders parts.new.blocks.holders }
     ensures bytes { (bytes : ℕ → ℕ → List ℕ) → HoldsBytes bytes lanes.old.frames → HoldsBytes bytes lanes.new.frames }
 {
@@ -103,6 +109,10 @@ pub fn feed<D: Disk, L: Ledger>(
     ensures err { OnErr result ((parts.new ≡ parts.old) × (lanes.new.queues ≡ lanes.old.queues)) }
     ensures stays { (fill : Spot → Tagged) (pledged : List (List Piece)) (takings : List ℕ) (made : ℕ) (b : Rebuilt) (s : State) → Stands fill pledged takings parts.old lanes.old made b s → OnErr result (Stands fill pledged takings parts.new lanes.new made b s) }
     ensures spare { parts.new.blocks.spare ≡ parts.old.blocks.spare }
+    ensures spare_ropes { parts.new.ropes.spare_ropes ≡ parts.old.ropes.spare_ropes }
+    ensures spare_pairs { parts.old.ropes.spare_pairs ≤ parts.new.ropes.spare_pairs }
+    ensures uses { (q : BlockPair) → uses_at parts.new.ropes q ≤ uses_at parts.old.ropes q }
+    ensures interests { parts.new.interests ≡ parts.old.interests }
     ensures addresses { KeepsAddresses parts.old.blocks.holders parts.new.blocks.holders }
 {
     if let Some(why) = refused(lanes, shape, lane, false) {
@@ -143,6 +153,10 @@ pub fn serve<D: Disk, L: Ledger>(
     ensures err { OnErr result ((parts.new ≡ parts.old) × (lanes.new.queues ≡ lanes.old.queues) × (lease.new ≡ (if lease.old.taken then lease.old else spent lease.old))) }
     ensures stays { (fill : Spot → Tagged) (pledged : List (List Piece)) (takings : List ℕ) (made : ℕ) (b : Rebuilt) (s : State) → Stands fill pledged takings parts.old lanes.old made b s → OnErr result (Stands fill pledged takings parts.new lanes.new made b s) }
     ensures spare { parts.new.blocks.spare ≡ parts.old.blocks.spare }
+    ensures spare_ropes { parts.new.ropes.spare_ropes ≡ parts.old.ropes.spare_ropes }
+    ensures spare_pairs { parts.old.ropes.spare_pairs ≤ parts.new.ropes.spare_pairs }
+    ensures uses { (q : BlockPair) → uses_at parts.new.ropes q ≤ uses_at parts.old.ropes q }
+    ensures interests { parts.new.interests ≡ parts.old.interests }
     ensures addresses { KeepsAddresses parts.old.blocks.holders parts.new.blocks.holders }
 {
     if let Some(why) = refused(lanes, shape, lane, true) {

@@ -14,7 +14,7 @@ ghost use Rattle.next_ropes.specs.Ready.{most_held};
 ghost use Rattle.running_tables.specs.Running.{Runs};
 ghost use Rattle.playing.specs.Held.{held_by};
 ghost use Rattle.lane_calls.specs.Lanes.{Stands};
-ghost use Rattle.lane_calls.specs.Answers.{MayPlay, IsPlayed, StaysRefused};
+ghost use Rattle.lane_calls.specs.Answers.{MayPlay, IsPlayed, IsJob, StaysRefused};
 
 use crate::Played;
 use playing::Lanes;
@@ -100,6 +100,8 @@ pub fn play(
     requires lanes { length lanes.old.queues ≡ shape.now.lanes }
     requires number { made + 1 < 2 ^ 64 }
     ensures played { (fill : Spot → Tagged) (pledged : List (List Piece)) (takings : List ℕ) (b : Rebuilt) (s : State) (tapes : List (List ℕ)) → Stands fill pledged takings parts.old lanes.old made b s → is_some (lane_at s lane).taking ≡ records → IfOk result (IsPlayed fill pledged takings b s tapes (calls.Play lane rope start len) made parts.new lanes.new) }
+    // So each block can be used once more.
+    ensures few { IfOk result (λ played. IsJob played → length parts.old.ropes.ropes + most_held + 3 ≤ 2 ^ 32) }
     ensures refused { IfOk result (StaysRefused parts.old lanes.old parts.new lanes.new) }
     ensures err { OnErr result ((parts.new ≡ parts.old) × (lanes.new ≡ lanes.old)) }
     ensures frames { lanes.new.frames ≡ lanes.old.frames }

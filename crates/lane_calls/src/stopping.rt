@@ -3,11 +3,12 @@
 ghost use Rattle.std.specs.Prelude.{◌≡◌, ℕ, ◌+◌, ◌≤◌, List, length};
 ghost use Rattle.voice_units.specs.declared.Piece.{Piece};
 ghost use Rattle.voice_units.specs.Spots.{Spot};
+ghost use Rattle.voice_units.specs.Blocks.{BlockPair};
 ghost use Rattle.voice_model.specs.Samples.{Tagged};
 ghost use Rattle.voice_model.specs.State.{State};
 ghost use Rattle.voice_model.specs.Replay.{Rebuilt};
 ghost use Rattle.voice_model.specs.declared.calls.Call.TheVariants as calls;
-ghost use Rattle.rope_table.specs.Table.{Counts};
+ghost use Rattle.rope_table.specs.Table.{Counts, uses_at};
 ghost use Rattle.next_ropes.specs.Addresses.{KeepsAddresses};
 ghost use Rattle.playing.specs.Frames.{HoldsBytes};
 ghost use Rattle.playing.specs.Held.{held_by, held_in, stretch_count};
@@ -34,7 +35,10 @@ pub fn stop<L: Ledger>(
     ensures stopped { (fill : Spot → Tagged) (pledged : List (List Piece)) (takings : List ℕ) (made : ℕ) (b : Rebuilt) (s : State) (tapes : List (List ℕ)) → Stands fill pledged takings parts.old lanes.old made b s → ArePledged b pledged → IsStopped fill pledged takings b s tapes (calls.Stop lane) made parts.old lanes.old parts.new lanes.new result }
     ensures bytes { (bytes : ℕ → ℕ → List ℕ) → HoldsBytes bytes lanes.old.frames → HoldsBytes bytes lanes.new.frames }
     ensures spare { parts.new.blocks.spare ≡ parts.old.blocks.spare }
+    ensures spare_ropes { parts.new.ropes.spare_ropes ≡ parts.old.ropes.spare_ropes }
+    ensures spare_pairs { parts.old.ropes.spare_pairs ≤ parts.new.ropes.spare_pairs }
     ensures addresses { KeepsAddresses parts.old.blocks.holders parts.new.blocks.holders }
+    ensures uses { (q : BlockPair) → uses_at parts.new.ropes q ≤ uses_at parts.old.ropes q }
     ensures interests { parts.new.interests ≡ parts.old.interests }
     ensures moment { parts.new.moment ≡ parts.old.moment }
     ensures next { parts.new.next ≡ parts.old.next }

@@ -24,6 +24,8 @@ pub fn let_go<L: Ledger>(
     requires held { (rest : List (List Piece)) × Counts ropes.old (passage.now ∷ rest) }
     ensures gone { LetsGo ropes.old ropes.new blocks.old.holders blocks.new.holders (passage.now ∷ []) }
     ensures spare { blocks.new.spare ≡ blocks.old.spare }
+    ensures spare_ropes { ropes.new.spare_ropes ≡ ropes.old.spare_ropes }
+    ensures spare_pairs { ropes.old.spare_pairs ≤ ropes.new.spare_pairs }
     ensures steps { steps.new ≡ steps.old + stretch_count ropes.old.block (passage.now ∷ []) }
 {
     ropes.release(passage);
@@ -42,6 +44,8 @@ pub fn let_go_jobs<L: Ledger>(
     requires held { (rest : List (List Piece)) × Counts ropes.old (held_in (lane_of queues.now lane) ++ rest) }
     ensures gone { LetsGo ropes.old ropes.new blocks.old.holders blocks.new.holders (held_in (lane_of queues.now lane)) }
     ensures spare { blocks.new.spare ≡ blocks.old.spare }
+    ensures spare_ropes { ropes.new.spare_ropes ≡ ropes.old.spare_ropes }
+    ensures spare_pairs { ropes.old.spare_pairs ≤ ropes.new.spare_pairs }
     ensures steps { steps.new ≡ steps.old + stretch_count ropes.old.block (held_in (lane_of queues.now lane)) }
 {
     for k in 0..queues.count(lane) {
