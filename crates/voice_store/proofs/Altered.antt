@@ -46,7 +46,7 @@ use Rattle.voice_store.specs.Facts.{Stays, IsFault}
 use Rattle.voice_store.specs.Ways.{IsWay}
 use Rattle.voice_store.specs.Trying.{IsReadyIn, Trying}
 use Rattle.voice_store.specs.Altering.{Weighs, Alters}
-use Rattle.voice_store.proofs.Kept.{is_sure, upright_by, same_shape}
+use Rattle.voice_store.proofs.Kept.{is_sure, upright_by, plays_by, same_shape}
 use Rattle.voice_store.proofs.Making.{IsMaking, row_makes, row_plain, may_commit, nothing_lands}
 use Rattle.voice_store.proofs.Refused.{wrong, nothing_stays}
 
@@ -151,6 +151,7 @@ module _ (first : State) (t0 : ℕ) (disk : Told) (s : Inside) (call : Call) (re
         takings = h.stood.takings;
         holding = h.stood.holding;
         ready = keeps.next;
+        playing = h.stood.playing;
         addresses = [];
         change = refl;
         may = may_commit last (tapes_of s) caller call effect making sure.in_state (altering_free free) keeps.is;
@@ -196,6 +197,7 @@ module _ (first : State) (t0 : ℕ) (disk : Told) (s : Inside) (stood : Stood fi
     holding = stood.holding;
     upright = upright_by first t0 disk s stood none parts (λ a holder held. ap (λ (x : BlocksView). holder_at x.holders a) (sym same_blocks) ∙ held);
     tables = inl (record { sure = none; in_journal = was.in_journal; in_state = was.in_state; tables = shows; same = refl });
+    playing = plays_by first t0 disk s stood none parts shows.kept;
     size = stood.size;
   }
 

@@ -1,6 +1,7 @@
 -- A change that was appended, by what the journal says of it.
 use Rattle.std.proofs.Common.{◌≡◌, ℕ, ◌+◌, ◌-◌, ◌≤◌, List, [], ◌∷◌, ◌++◌, length, Bool, true, cond, Some, None, IsTrue, refl, sym, ◌∙◌, ap, subst, arith}
 use Rattle.std.proofs.lemmas.Bool.{le-leb}
+use Rattle.voice_units.specs.declared.pieces.Piece.{Piece}
 use Rattle.voice_outside.specs.Disk.{Told}
 use Rattle.voice_journal.specs.Readings.{with_payload}
 use Rattle.voice_journal.specs.Places.{landed as landed_seat}
@@ -36,16 +37,8 @@ use Rattle.voice_store.specs.declared.inside.Doubted.{Doubted}
 use Rattle.voice_store.specs.Stood.{tapes_of, last_of, in_form, Fills, IsSeated, Stood}
 use Rattle.voice_store.specs.Ways.{FitsBehind}
 use Rattle.voice_store.specs.Trying.{Trying}
+use Rattle.voice_store.proofs.Played.{Forgot, Unmoved, changed_shape}
 use Rattle.voice_store.proofs.Tried.{said, next_done, next_failed, next_waits, stood_done, stood_failed, stood_waits}
-
-pub changed_shape : (form : ℕ) (d : Durable Tagged) (e : Effect Tagged) → (changed form d e).shape ≡ d.shape
-changed_shape form d (Recorded id samples) = refl
-changed_shape form d (Edited id samples) = refl
-changed_shape form d (Retained row) = refl
-changed_shape form d (Forgotten class key) = refl
-changed_shape form d (Counted keys) = refl
-changed_shape form d (Swept ids) = refl
-changed_shape form d (Advanced moment) = refl
 
 -- the state with the change, by whether its frame fits the area
 abbrev pub committed_by : Bool → State → Effect Tagged → State
@@ -91,10 +84,10 @@ module _ (first : State) (t0 : ℕ) (old new : Told) (s s' : Inside) (b : Rebuil
 
   pub failed_stood : s'.tapes ≡ s.tapes → s'.history.items ≡ s.history.items ++ entry_failed ∷ []
       → (IsTrue old.honest → SameElsewhere s.journal.shape old.bytes new.bytes) → KeepsAddresses s.parts.blocks.holders s'.parts.blocks.holders
-      → s'.journal.shape ≡ s.journal.shape → s'.journal.seat ≡ s.journal.seat → s'.journal.doubt ≡ None → s'.doubt ≡ None → Runs tr.held [] tr.takings s'.parts b
+      → s'.journal.shape ≡ s.journal.shape → s'.journal.seat ≡ s.journal.seat → s'.journal.doubt ≡ None → s'.doubt ≡ None → Unmoved s s' → Runs tr.held [] tr.takings s'.parts b
       → FailuresCarry old new → (IsTrue old.honest → Undoes s.journal s'.journal old new) → Stood first t0 new s'
-  failed_stood tapes items elsewhere keeps shape seat sure none tables carry undoes =
-      stood_failed first t0 old new s s' b next c effect caller call reply tr later sizes alike tapes items elsewhere keeps shape seat sure none tables
+  failed_stood tapes items elsewhere keeps shape seat sure none unmoved tables carry undoes =
+      stood_failed first t0 old new s s' b next c effect caller call reply tr later sizes alike tapes items elsewhere keeps shape seat sure none unmoved tables
       (λ h. let h' = honest h in
       carry.before first (tapes_of s) t0 s.journal s'.journal b b s.history.items entry_failed (moments h') (tr.upright.held h') tr.may.sure (undoes h') refl stays_durable)
 
@@ -137,12 +130,12 @@ module _ (first : State) (t0 : ℕ) (old new : Told) (s s' : Inside) (b : Rebuil
 
     pub appended_stood : s'.tapes ≡ s.tapes → s'.history.items ≡ s.history.items ++ entry_done ∷ []
         → (IsTrue old.honest → SameElsewhere s.journal.shape old.bytes new.bytes) → KeepsAddresses s.parts.blocks.holders s'.parts.blocks.holders
-        → s'.journal.shape ≡ s.journal.shape → s'.journal.seat ≡ landed_seat s.journal.seat (Record (length payload)) → s'.journal.doubt ≡ None → s'.doubt ≡ None
+        → s'.journal.shape ≡ s.journal.shape → s'.journal.seat ≡ landed_seat s.journal.seat (Record (length payload)) → s'.journal.doubt ≡ None → s'.doubt ≡ None → Forgot s s'
         → Runs tr.held [] tr.takings s'.parts (acted b c)
         → AppendsCarry old new → (IsTrue old.honest → Does (λ r. with_payload r payload) s.journal s'.journal old new × StaysWithin (λ r. with_payload r payload) s.journal old new)
         → Stood first t0 new s'
-    appended_stood tapes items elsewhere keeps shape seat sure none tables carry does =
-        stood_done first t0 old new s s' b next c effect caller call reply tr later sizes alike (acted b c) (Record (length payload)) tapes items elsewhere keeps shape seat sure none tables fills_then seated_then
+    appended_stood tapes items elsewhere keeps shape seat sure none forgot tables carry does =
+        stood_done first t0 old new s s' b next c effect caller call reply tr later sizes alike (acted b c) (Record (length payload)) tapes items elsewhere keeps shape seat sure none forgot tables fills_then seated_then
         (λ h. let h' = honest h in let d = does h' in
         carry.ok first (tapes_of s) t0 s.journal s'.journal b b s.history.items effect payload c entry_done (moments h') (tr.upright.held h') tr.may.sure (change h') d.0 d.1 refl committed_then)
 
@@ -152,18 +145,18 @@ module _ (first : State) (t0 : ℕ) (old new : Told) (s s' : Inside) (b : Rebuil
         record { kept = ap (λ (t : State). t.kept) is; doubt = ap (λ (t : State). t.doubt) is; form = ap (λ (t : State). t.form) is; left = ap (λ (t : State). t.left) is }
 
     -- the tables once it lands
-    in_form_then : (parts : Parts) → Runs tr.held [] tr.takings parts (acted b c) → Runs tr.held [] tr.takings (in_form s.parts.form parts) (acted b c)
-    in_form_then parts shows = subst (λ (f : ℕ). Runs tr.held [] tr.takings (in_form f parts) (acted b c)) (shows.in_form ∙ acted_form b c gives.kind ∙ sym gives.runs.in_form) shows
+    in_form_then : (held : List (List Piece)) (takings : List ℕ) (parts : Parts) → Runs held [] takings parts (acted b c) → Runs held [] takings (in_form s.parts.form parts) (acted b c)
+    in_form_then held takings parts shows = subst (λ (f : ℕ). Runs held [] takings (in_form f parts) (acted b c)) (shows.in_form ∙ acted_form b c gives.kind ∙ sym gives.runs.in_form) shows
 
     pub append_waits : (doubted : Doubted) → doubted.next ≡ next → doubted.form ≡ s.parts.form → s'.tapes ≡ s.tapes
         → s'.history.items ≡ s.history.items ++ entry_waits ∷ []
         → (IsTrue old.honest → SameElsewhere s.journal.shape old.bytes new.bytes)
-        → s'.journal.shape ≡ s.journal.shape → s'.journal.seat ≡ s.journal.seat → s'.journal.doubt ≡ Some (Record (length payload)) → s'.doubt ≡ Some doubted → s'.parts ≡ s.parts
+        → s'.journal.shape ≡ s.journal.shape → s'.journal.seat ≡ s.journal.seat → s'.journal.doubt ≡ Some (Record (length payload)) → s'.doubt ≡ Some doubted → s'.parts ≡ s.parts → Unmoved s s'
         → AppendsCarry old new → (IsTrue old.honest → Doubts (λ r. with_payload r payload) s.journal s'.journal old new × StaysWithin (λ r. with_payload r payload) s.journal old new)
         → Stood first t0 new s'
-    append_waits doubted same form tapes items elsewhere shape seat unsure some parts carry doubts =
-        stood_waits first t0 old new s s' b next c effect caller call reply tr later sizes alike (acted b c) (Record (length payload)) doubted same tapes items elsewhere shape seat unsure some parts
-        (λ p shows. subst (λ (f : ℕ). Runs tr.held [] tr.takings (in_form f p) (acted b c)) (sym form) (in_form_then p shows))
+    append_waits doubted same form tapes items elsewhere shape seat unsure some parts unmoved carry doubts =
+        stood_waits first t0 old new s s' b next c effect caller call reply tr later sizes alike (acted b c) (Record (length payload)) doubted same tapes items elsewhere shape seat unsure some parts unmoved
+        (λ held takings p shows. subst (λ (f : ℕ). Runs held [] takings (in_form f p) (acted b c)) (sym form) (in_form_then held takings p shows))
         fills_then
         seated_then
         (λ h. let h' = honest h in let d = doubts h' in

@@ -17,7 +17,7 @@ use Rattle.crash_laws.specs.Standing.{IsHeld, IsHonest}
 use Rattle.crash_laws.specs.Calls.{KeepsDurable}
 use Rattle.crash_laws.specs.Laws.{EntriesCount}
 use Rattle.voice_store.specs.declared.inside.Inside.{Inside}
-use Rattle.voice_store.specs.Stood.{last_state, tapes_of, last_of, Fills, Brings, IsSeated, AcksRise, IsHolding, Upright, IsSure, Lands, IsUnsure, Stood}
+use Rattle.voice_store.specs.Stood.{last_state, tapes_of, last_of, Fills, Brings, IsSeated, AcksRise, IsHolding, Upright, IsSure, Lands, IsUnsure, Plays, Stood}
 
 pub after_one : (s : State) (tapes : List (List ℕ)) (es : List Entry) (e : Entry) → after s tapes (es ++ e ∷ []) ≡ state_after (after s tapes es) tapes e
 after_one s tapes es e = after-append s tapes es (e ∷ [])
@@ -98,6 +98,7 @@ module _ (first : State) (t0 : ℕ) (disk : Told) (s : Inside) (history : Vec En
           bytes = stood.upright.bytes;
         };
         tables = tables_noted stood.tables more.last;
+        playing = subst (λ (t : State). Plays stood.fill disk.honest s t) (sym more.last) stood.playing;
         size = stood.size;
       }
     where
@@ -116,5 +117,5 @@ module _ (first : State) (t0 : ℕ) (disk : Told) (s : Inside) (history : Vec En
         addresses = unsure.addresses;
         spelled = unsure.spelled;
         brings_it = subst (λ (t : State). Brings stood.fill stood.b unsure.change t unsure.pending.effect) (sym last) unsure.brings_it;
-        lands = subst (λ (t : State). Lands stood.fill stood.held stood.takings s.journal unsure.doubted stood.b stood.after t unsure.change unsure.doubt) (sym last) unsure.lands;
+        lands = subst (λ (t : State). Lands stood.fill s.journal unsure.doubted stood.b stood.after t unsure.change unsure.doubt) (sym last) unsure.lands;
       })

@@ -33,7 +33,9 @@ use Rattle.crash_laws.specs.Standing.{IsHeld, IsHonest, first_state}
 use Rattle.crash_laws.specs.Laws.{OpeningHolds}
 use Rattle.voice_store.specs.declared.inside.Inside.{Inside}
 use Rattle.recovery.specs.Replayed.{bytes_of, records_of}
-use Rattle.voice_store.specs.Stood.{tapes_of, last_of, Fills, IsSeated, AcksRise, IsHolding, Stood, IsSure}
+use Rattle.voice_store.specs.Stood.{tapes_of, last_of, Fills, IsSeated, AcksRise, IsHolding, Plays, Stood, IsSure}
+use Rattle.voice_store.specs.Playing.{IsPlaying}
+use Rattle.voice_store.proofs.Played.{IsEmptyOf, playing_first}
 use Rattle.std.specs.Prelude.{count_by}
 use Rattle.voice_store.specs.Shown.{Stands}
 use Rattle.voice_store.specs.Stood.{is_fault}
@@ -144,8 +146,8 @@ module _ (t0 : ℕ) (bytes : List ℕ) (disk : Told) (s : Inside) (b : Rebuilt) 
   pub stood_first : replayed (nothing_rebuilt s.journal.shape) (records_of ps) ≡ Replayed.All b → Rebuilds s.parts b → s.doubt ≡ None → s.journal.doubt ≡ None
       → 16 ≤ s.journal.seat.gate → s.journal.seat.gate < s.journal.shape.area
       → t0 ≤ disk.calls → extent s.journal.shape ≤ disk.size → (IsTrue disk.honest → IsHeld begin (tapes_of s) t0 s.journal disk b b [])
-      → (IsTrue disk.honest → disk.bytes ≡ bytes) → Stood begin t0 disk s
-  stood_first rebuilds tables none sure from within past size held same = record {
+      → (IsTrue disk.honest → disk.bytes ≡ bytes) → IsEmptyOf s.journal.shape s.lanes → s.made ≡ 0 → Stood begin t0 disk s
+  stood_first rebuilds tables none sure from within past size held same empty unmade = record {
     fill = filled bytes b;
     b = b;
     after = b;
@@ -166,6 +168,11 @@ module _ (t0 : ℕ) (bytes : List ℕ) (disk : Told) (s : Inside) (b : Rebuilt) 
       bytes = λ honest. opened_filled bytes disk.bytes s.journal.shape b s.parts.blocks.holders (shape_rebuilt s.journal.shape ps b rebuilds) (same honest) tables.places tables.placed.once;
     };
     tables = inl (of_last (λ t. IsSure (held_in begin) (takings_in begin) s b b t) (record { sure = none; in_journal = sure; in_state = refl; tables = begin_runs tables; same = refl }));
+    playing = of_last (λ t. Plays (filled bytes b) disk.honest s t) (subst (λ n. IsPlaying (filled bytes b) disk.honest s.journal.shape.block s.parts.ropes s.lanes n begin) (sym unmade)
+        (let in_shape = shape_rebuilt s.journal.shape ps b rebuilds in
+        playing_first (filled bytes b) (λ x. refl) disk.honest s.journal.shape.block s.journal.shape.lanes s.parts.ropes s.lanes begin
+        (ap (λ (x : Shape). replicate x.lanes quiet_lane) in_shape) (ap (λ (x : Shape). x.lanes) in_shape) refl
+        empty.queues (empty.block ∙ ap (λ (x : Shape). x.block) (sym in_shape)) empty.resident));
     size = size;
   }
 

@@ -49,13 +49,14 @@ use Rattle.next_ropes.specs.declared.NextRope.{NextRope}
 use Rattle.voice_store.specs.declared.inside.Inside.{Inside}
 use Rattle.voice_store.specs.declared.ways.Way.{Way}
 use Rattle.voice_store.specs.declared.ways.Way.TheVariants as ways
-use Rattle.voice_store.specs.Stood.{last_of, tapes_of, Upright, IsSure, IsUnsure, Stood}
+use Rattle.voice_store.specs.Stood.{last_of, tapes_of, Upright, IsSure, IsUnsure, Plays, Stood}
 use Rattle.voice_store.specs.Ways.{IsWay}
 use Rattle.voice_store.specs.Trying.{Trying}
 use Rattle.voice_store.specs.Keeping.{MakesRope, HasWay}
 use Rattle.voice_store.proofs.Filled.{still_filled, stays_same}
 use Rattle.voice_store.proofs.Refused.{wrong, kept_again}
 use Rattle.voice_store.proofs.Holding.{few_held}
+use Rattle.voice_store.proofs.Played.{playing_by}
 use Rattle.voice_store.proofs.Making.{IsMaking, edit_makes, edit_reply, may_commit}
 use Rattle.voice_store.proofs.Again.{filled_again, timely_edit}
 
@@ -88,6 +89,10 @@ module _ (first : State) (t0 : ℕ) (disk : Told) (s : Inside) (stood : Stood fi
     bytes = λ h. still_filled stood.fill s.journal.shape disk.bytes disk.bytes s.parts.blocks.holders parts.blocks.holders keeps (stays_same s.journal.shape disk.bytes disk.bytes refl) (up.bytes h);
   }
 
+  -- the lanes play on over other tables that show the same
+  pub plays_by : (parts : Parts) → Shows stood.held parts stood.b.kept → Plays stood.fill disk.honest (record s { parts = parts }) (last_of first s)
+  plays_by parts shows = playing_by stood.held s.parts parts stood.b.kept is_sure.tables.kept shows stood.fill disk.honest s.journal.shape.block s.lanes s.made (last_of first s) stood.playing
+
   -- other tables that show the same
   pub same_parts : (parts : Parts) → Runs stood.held [] stood.takings parts stood.b → KeepsAddresses s.parts.blocks.holders parts.blocks.holders → Stood first t0 disk (record s { parts = parts })
   same_parts parts shows keeps = record {
@@ -99,6 +104,7 @@ module _ (first : State) (t0 : ℕ) (disk : Told) (s : Inside) (stood : Stood fi
     holding = stood.holding;
     upright = upright_by parts keeps;
     tables = inl (record { sure = none; in_journal = is_sure.in_journal; in_state = is_sure.in_state; tables = shows; same = refl });
+    playing = plays_by parts shows.kept;
     size = stood.size;
   }
 
@@ -150,7 +156,7 @@ module _ (first : State) (t0 : ℕ) (disk : Told) (s : Inside) (call : Call) (pi
 
 -- ---- an edit that the journal does not refuse
 
-each_had : (others pairs : List BlockPair) → list_all (has_pair others) pairs ≡ true → (q : BlockPair) → has_pair pairs q ≡ true → has_pair others q ≡ true
+pub each_had : (others pairs : List BlockPair) → list_all (has_pair others) pairs ≡ true → (q : BlockPair) → has_pair pairs q ≡ true → has_pair others q ≡ true
 each_had others [] h q e = absurd (wrong e)
 each_had others (p ∷ pairs) h q e =
     let parts = both (has_pair others p) (list_all (has_pair others) pairs) h in
@@ -243,6 +249,7 @@ module _ (first : State) (t0 : ℕ) (disk : Told) (s : Inside) (call : Call) (pi
         takings = h.makes.stood.takings;
         holding = h.makes.stood.holding;
         ready = ready;
+        playing = plays_by first t0 disk s h.makes.stood h.makes.sure parts ready.runs.kept;
         addresses = [];
         change = the_change;
         may = may_commit now (tapes_of s) caller call made making sure.in_state unrefused rope.effect;

@@ -15,7 +15,7 @@ use Rattle.voice_model.specs.declared.calls.Call.{Call}
 use Rattle.voice_model.specs.declared.calls.Reply.{Reply}
 use Rattle.voice_model.specs.declared.calls.Entry.{Entry}
 use Rattle.voice_store.specs.declared.inside.Inside.{Inside}
-use Rattle.voice_store.specs.Stood.{last_of, tapes_of, Stood, Fills, Brings, IsSeated, AcksRise, IsHolding, IsSure, IsUnsure, Lands}
+use Rattle.voice_store.specs.Stood.{last_of, tapes_of, Stood, Fills, Brings, IsSeated, AcksRise, IsHolding, IsSure, IsUnsure, Lands, Plays}
 use Rattle.voice_store.specs.Shown.{FaultsCover, Stands}
 use Rattle.voice_store.specs.Facts.{Adds, AddsLanding, entry_of, landing_at}
 
@@ -82,6 +82,7 @@ module _ (first : State) (t0 : ℕ) (disk : Told) (s : Inside) (history : Vec En
       bytes = up.bytes;
     };
     tables = by stood.tables;
+    playing = subst (λ (t : State). Plays stood.fill disk.honest s t) (sym last) stood.playing;
     size = stood.size;
   }
     where
@@ -99,7 +100,7 @@ module _ (first : State) (t0 : ℕ) (disk : Told) (s : Inside) (history : Vec En
         addresses = unsure.addresses;
         spelled = unsure.spelled;
         brings_it = subst (λ (t : State). Brings stood.fill stood.b unsure.change t unsure.pending.effect) (sym last) unsure.brings_it;
-        lands = subst (λ (t : State). Lands stood.fill stood.held stood.takings s.journal unsure.doubted stood.b stood.after t unsure.change unsure.doubt) (sym last) unsure.lands;
+        lands = subst (λ (t : State). Lands stood.fill s.journal unsure.doubted stood.b stood.after t unsure.change unsure.doubt) (sym last) unsure.lands;
       })
 
 pub stood_reserved : (first : State) (t0 : ℕ) (disk : Told) (s s' : Inside) → s' ≡ record s { history = s'.history } → s'.history.items ≡ s.history.items → Stood first t0 disk s → Stood first t0 disk s'

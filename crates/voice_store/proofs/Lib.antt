@@ -14,6 +14,7 @@ pub mod Kept
 pub mod Landed
 pub mod Making
 pub mod Filled
+pub mod Played
 pub mod Pushed
 pub mod Recordable
 pub mod Recorded
@@ -24,9 +25,11 @@ pub mod Holding
 pub mod Sending
 pub mod Settled
 pub mod Spare
+pub mod StillReady
 pub mod Spared
 pub mod Switched
 pub mod Taking
 pub mod Tried
+pub mod Turned
 pub mod Written
 pub mod Heard

@@ -13,10 +13,11 @@ use Rattle.voice_model.specs.Valid.{IsState}
 use Rattle.voice_model.specs.declared.calls.Entry.{Entry}
 use Rattle.crash_laws.specs.Standing.{IsHeld}
 use Rattle.voice_store.specs.declared.inside.Inside.{Inside}
-use Rattle.voice_store.specs.Stood.{tapes_of, last_of, Fills, IsSeated, AcksRise, IsHolding, Upright, IsSure, IsUnsure, Stood}
+use Rattle.voice_store.specs.Stood.{tapes_of, last_of, Fills, IsSeated, AcksRise, IsHolding, Upright, IsSure, IsUnsure, Plays, Stood}
 use Rattle.voice_store.specs.Filled.{IsFilled}
 use Rattle.voice_store.proofs.Filled.{StaysBehind, still_filled}
 use Rattle.voice_store.proofs.Entries.{after_one, legal_one, acks_one, acks_later}
+use Rattle.voice_store.proofs.Played.{playing_as_honest}
 
 -- a history that is legal on a disk is on one as honest
 pub as_honest : (first : State) (old new : Told) (s : Inside) → new.honest ≡ old.honest → LegalOn old.honest first (tapes_of s) s.history.items → LegalOn new.honest first (tapes_of s) s.history.items
@@ -45,9 +46,9 @@ module _ (first : State) (t0 : ℕ) (old new : Told) (s s' : Inside) (e : Entry)
       → IsAnswerOn new.honest last (tapes_of s) e → IsState next → IsHolding held takings s'.journal.shape.block next.lanes → Fills fill b' next → IsSeated s'.journal next
       → (IsTrue new.honest → IsHeld first (tapes_of s) t0 s'.journal new b' after'' (s.history.items ++ e ∷ []))
       → (IsTrue new.honest → IsFilled fill s'.journal.shape new.bytes s'.parts.blocks.holders)
-      → IsSure held takings s' b' after'' next ⊎ IsUnsure fill held takings s' b' after'' next → extent s'.journal.shape ≤ new.size
+      → IsSure held takings s' b' after'' next ⊎ IsUnsure fill held takings s' b' after'' next → Plays fill new.honest s' next → extent s'.journal.shape ≤ new.size
       → Stood first t0 new s'
-  stood_pushed fill b b' after' after'' held takings up later alike now answers valid holding fills seated stands filled tables size = record {
+  stood_pushed fill b b' after' after'' held takings up later alike now answers valid holding fills seated stands filled tables playing size = record {
     fill = fill;
     b = b';
     after = after'';
@@ -64,6 +65,7 @@ module _ (first : State) (t0 : ℕ) (old new : Told) (s s' : Inside) (e : Entry)
       bytes = filled;
     };
     tables = subst (λ (t : State). IsSure held takings s' b' after'' t ⊎ IsUnsure fill held takings s' b' after'' t) (sym last_next) tables;
+    playing = subst (λ (t : State). Plays fill new.honest s' t) (sym last_next) playing;
     size = size;
   }
 
@@ -87,5 +89,6 @@ stood_went_on first t0 old new s stood later size alike held behind = record {
     bytes = λ is. let was = subst (λ (h : Bool). IsTrue h) alike is in still_filled stood.fill s.journal.shape old.bytes new.bytes s.parts.blocks.holders s.parts.blocks.holders (λ a holder had. had) (behind was) (stood.upright.bytes was);
   };
   tables = stood.tables;
+  playing = playing_as_honest stood.fill old.honest new.honest s.journal.shape.block s.parts.ropes s.lanes s.made (last_of first s) alike stood.playing;
   size = let is = stood.size in omega (arith, is, size);
 }

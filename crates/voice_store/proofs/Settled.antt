@@ -29,6 +29,7 @@ use Rattle.voice_store.specs.Stood.{tapes_of, last_of, in_form, IsSeated, IsSure
 use Rattle.voice_store.specs.Stood as stood
 use Rattle.voice_store.specs.Trying.{IsReadyIn}
 use Rattle.voice_store.specs.Facts.{landing_at}
+use Rattle.voice_store.proofs.Played.{Forgot, keeps_landed, plays_forgot}
 use Rattle.voice_store.proofs.Pushed.{stood_pushed, stood_went_on}
 
 landed_lanes : (s : State) (o : Option Pending) → (after_landing (record s { doubt = None }) o).lanes ≡ s.lanes
@@ -77,14 +78,14 @@ module _ (first : State) (t0 : ℕ) (old new : Told) (s s' : Inside) (was : Stoo
   honest h = subst (λ (b : Bool). IsTrue b) alike h
 
   pub stood_landed : s'.tapes ≡ s.tapes → s'.history.items ≡ s.history.items ++ landing_at new.calls ∷ [] → (IsTrue old.honest → SameElsewhere s.journal.shape old.bytes new.bytes) → KeepsAddresses s.parts.blocks.holders s'.parts.blocks.holders → s'.journal ≡ landed_journal s.journal unsure.doubt
-      → s'.doubt ≡ None → s'.parts.form ≡ unsure.doubted.form → Runs was.held [] was.takings (in_form was.b.form s'.parts) (acted was.b unsure.change)
+      → Forgot s s' → s'.doubt ≡ None → s'.parts.form ≡ unsure.doubted.form → Runs was.held [] was.takings (in_form was.b.form s'.parts) (acted was.b unsure.change)
       → (IsTrue old.honest → Lands s.journal s'.journal old new × LandsWithin s.journal old new)
       → Stood first t0 new s'
-  stood_landed tapes items elsewhere keeps journal doubt form tables does =
+  stood_landed tapes items elsewhere keeps journal forgot doubt form tables does =
       let lands = unsure.lands in
       let e = landing_at new.calls in
       let next_is : state_after last (tapes_of s) e ≡ landed last = refl in
-      let shown : Runs was.held [] was.takings (in_form unsure.doubted.form s'.parts) was.after = lands.tables (in_form was.b.form s'.parts) tables in
+      let shown : Runs was.held [] was.takings (in_form unsure.doubted.form s'.parts) was.after = lands.tables was.held was.takings (in_form was.b.form s'.parts) tables in
       let shows : Runs was.held [] was.takings s'.parts was.after = subst (λ (f : ℕ). Runs was.held [] was.takings (in_form f s'.parts) was.after) (sym form) shown in
       let none : (landed last).doubt ≡ None = landed_doubt last last.doubt in
       let seated : IsSeated s'.journal (landed last) =
@@ -99,6 +100,7 @@ module _ (first : State) (t0 : ℕ) (old new : Told) (s s' : Inside) (was : Stoo
       (λ h. subst (λ (j : JournalValue). IsFilled was.fill j.shape new.bytes s'.parts.blocks.holders) (sym journal)
       (still_filled was.fill s.journal.shape old.bytes new.bytes s.parts.blocks.holders s'.parts.blocks.holders keeps (stays_elsewhere s.journal.shape old.bytes new.bytes (elsewhere (honest h))) (was.upright.bytes (honest h))))
       (inl (record { sure = doubt; in_journal = ap (λ (j : JournalValue). j.doubt) journal; in_state = none; tables = shows; same = refl }))
+      (plays_forgot was.fill old.honest new.honest s s' last (landed last) alike (ap (λ (j : JournalValue). j.shape) journal) (keeps_landed last was.upright.valid) was.playing forgot)
       (let is = was.size in let shape : s'.journal.shape ≡ s.journal.shape = ap (λ (j : JournalValue). j.shape) journal in
       subst (λ (x : Shape). extent x ≤ new.size) (sym shape) (omega (arith, is, sizes)))
 

@@ -47,8 +47,9 @@ use Rattle.voice_store.specs.Ways.{FitsOther}
 use Rattle.voice_store.specs.Trying.{Trying, IsBaseOf}
 use Rattle.voice_store.proofs.Bases.{above_leb}
 use Rattle.rope_table.specs.Table.{pairs_in}
+use Rattle.voice_store.proofs.Played.{Forgot, Unmoved, changed_shape}
 use Rattle.voice_store.proofs.Tried.{next_done, next_waits, stood_done, stood_waits}
-use Rattle.voice_store.proofs.Appended.{committed_by, changed_shape, entry_done, entry_waits}
+use Rattle.voice_store.proofs.Appended.{committed_by, entry_done, entry_waits}
 
 -- a change that has an effect keeps the shape
 pub acted_shape : (b : Rebuilt) (c : Change) → is_some (brings c) ≡ true → (acted b c).shape ≡ b.shape
@@ -165,10 +166,10 @@ module _ (first : State) (t0 : ℕ) (old new : Told) (s s' : Inside) (b : Rebuil
       subst (λ (t : State). IsSeated (record s.journal { seat = landed_seat s.journal.seat (Area gate) }) t) (sym is_then)
       (record { shape = changed_shape last.form last.kept effect ∙ was.shape; left = omega (arith, size, area, room); epoch = omega (arith, epoch) })
 
-  tables_then : (parts : Parts) → Runs tr.held [] tr.takings parts x → Runs tr.held [] tr.takings (in_form base.form parts) end
-  tables_then parts shows =
+  tables_then : (held : List (List Piece)) (takings : List ℕ) (parts : Parts) → Runs held [] takings parts x → Runs held [] takings (in_form base.form parts) end
+  tables_then held takings parts shows =
       let v = replays.valid (switched (formatted x.shape) (map spelling (base_of base.form x))) end (reached).1 in
-      shown_read_back tr.held tr.takings parts x end base.form shows (reached).2 (reached).4 (reached).3 v.0 v.1 v.2
+      shown_read_back held takings parts x end base.form shows (reached).2 (reached).4 (reached).3 v.0 v.1 v.2
 
   spells : IsTrue old.honest → IsBase old.bytes last effect b base.form base.payloads x
   spells h = record {
@@ -192,13 +193,13 @@ module _ (first : State) (t0 : ℕ) (old new : Told) (s s' : Inside) (b : Rebuil
 
   pub switched_stood : s'.tapes ≡ s.tapes → s'.history.items ≡ s.history.items ++ entry_done first t0 old new s s' b next c effect caller call reply tr later sizes alike moments ∷ []
       → (IsTrue old.honest → SameElsewhere s.journal.shape old.bytes new.bytes) → KeepsAddresses s.parts.blocks.holders s'.parts.blocks.holders
-      → s'.journal.shape ≡ s.journal.shape → s'.journal.seat ≡ landed_seat s.journal.seat (Area gate) → s'.journal.doubt ≡ None → s'.doubt ≡ None
+      → s'.journal.shape ≡ s.journal.shape → s'.journal.seat ≡ landed_seat s.journal.seat (Area gate) → s'.journal.doubt ≡ None → s'.doubt ≡ None → Forgot s s'
       → (parts : Parts) → Runs tr.held [] tr.takings parts x → s'.parts ≡ in_form base.form parts
       → SwitchesCarry old new → (IsTrue old.honest → Does (λ r. switched r base.payloads) s.journal s'.journal old new × StaysWithin (λ r. switched r base.payloads) s.journal old new)
       → Stood first t0 new s'
-  switched_stood tapes items elsewhere keeps shape seat sure none parts tables parts_are carry does =
-      stood_done first t0 old new s s' b next c effect caller call reply tr later sizes alike end (Area gate) tapes items elsewhere keeps shape seat sure none
-      (subst (λ (p : Parts). Runs tr.held [] tr.takings p end) (sym parts_are) (tables_then parts tables)) fills_then seated_then
+  switched_stood tapes items elsewhere keeps shape seat sure none forgot parts tables parts_are carry does =
+      stood_done first t0 old new s s' b next c effect caller call reply tr later sizes alike end (Area gate) tapes items elsewhere keeps shape seat sure none forgot
+      (subst (λ (p : Parts). Runs tr.held [] tr.takings p end) (sym parts_are) (tables_then tr.held tr.takings parts tables)) fills_then seated_then
       (λ h. let h' = honest h in let d = does h' in
       let e = entry_done first t0 old new s s' b next c effect caller call reply tr later sizes alike moments in
       let got = carry.ok first (tapes_of s) t0 s.journal s'.journal b b s.history.items effect base.form base.payloads x e (moments h') (tr.upright.held h') tr.may.sure (spells h') d.0 d.1 refl committed_then in
@@ -212,12 +213,12 @@ module _ (first : State) (t0 : ℕ) (old new : Told) (s s' : Inside) (b : Rebuil
   pub switch_waits : (doubted : Doubted) → doubted.next ≡ next → doubted.form ≡ base.form → s'.tapes ≡ s.tapes
       → s'.history.items ≡ s.history.items ++ entry_waits first t0 old new s s' b next c effect caller call reply tr later sizes alike moments ∷ []
       → (IsTrue old.honest → SameElsewhere s.journal.shape old.bytes new.bytes)
-      → s'.journal.shape ≡ s.journal.shape → s'.journal.seat ≡ s.journal.seat → s'.journal.doubt ≡ Some (Area gate) → s'.doubt ≡ Some doubted → s'.parts ≡ s.parts
+      → s'.journal.shape ≡ s.journal.shape → s'.journal.seat ≡ s.journal.seat → s'.journal.doubt ≡ Some (Area gate) → s'.doubt ≡ Some doubted → s'.parts ≡ s.parts → Unmoved s s'
       → SwitchesCarry old new → (IsTrue old.honest → Doubts (λ r. switched r base.payloads) s.journal s'.journal old new × StaysWithin (λ r. switched r base.payloads) s.journal old new)
       → Stood first t0 new s'
-  switch_waits doubted same form tapes items elsewhere shape seat unsure some parts carry doubts =
-      stood_waits first t0 old new s s' b next c effect caller call reply tr later sizes alike end (Area gate) doubted same tapes items elsewhere shape seat unsure some parts
-      (λ p shows. subst (λ (f : ℕ). Runs tr.held [] tr.takings (in_form f p) end) (sym form) (tables_then p shows))
+  switch_waits doubted same form tapes items elsewhere shape seat unsure some parts unmoved carry doubts =
+      stood_waits first t0 old new s s' b next c effect caller call reply tr later sizes alike end (Area gate) doubted same tapes items elsewhere shape seat unsure some parts unmoved
+      (λ held takings p shows. subst (λ (f : ℕ). Runs held [] takings (in_form f p) end) (sym form) (tables_then held takings p shows))
       fills_then
       seated_then
       (λ h. let h' = honest h in let d = doubts h' in

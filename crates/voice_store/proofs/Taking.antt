@@ -64,7 +64,7 @@ module _ (fill : Spot → Tagged) (same : (x : Spot) → spot_of (fill x) ≡ x)
   unfolding later_fill
   later_spots x = refl
 
-  as_before : (x : Spot) → x.file < id → later x ≡ fill x
+  pub as_before : (x : Spot) → x.file < id → later x ≡ fill x
   unfolding later_fill
   as_before x less =
       ap (λ (v : Bool). let t : Tagged = record { byte = cond v (slice_index bytes x.place) (fill x).byte; file = x.file; place = x.place } in t) (not_equal x.file id (λ e. absurd (omega (arith, less, e))))

@@ -1,5 +1,6 @@
 -- A change that went to the journal: it is done, it failed before it counted, or it is in doubt.
-use Rattle.std.proofs.Common.{◌≡◌, inl, inr, ℕ, ◌≤◌, Bool, [], ◌∷◌, ◌++◌, Option, Some, None, IsTrue, refl, sym, ◌∙◌, ap, subst, arith}
+use Rattle.std.proofs.Common.{◌≡◌, inl, inr, ℕ, ◌≤◌, Bool, List, [], ◌∷◌, ◌++◌, Option, Some, None, IsTrue, refl, sym, ◌∙◌, ap, subst, arith}
+use Rattle.voice_units.specs.declared.pieces.Piece.{Piece}
 use Rattle.voice_outside.specs.Disk.{Told}
 use Rattle.voice_units.specs.declared.shapes.Shape.{Shape}
 use Rattle.voice_journal.specs.Places.{JournalValue, landed as landed_seat}
@@ -11,7 +12,7 @@ use Rattle.voice_model.specs.State.{State, Durable, Pending, Effect}
 use Rattle.voice_model.specs.Changes.{committed}
 use Rattle.voice_model.specs.Step.{landed, state_after, IsAnswer, IsReply}
 use Rattle.voice_model.specs.Replay.{Rebuilt, acted}
-use Rattle.voice_model.specs.Valid.{IsState}
+use Rattle.voice_model.specs.Valid.{IsState, IsFit}
 use Rattle.voice_model.specs.declared.calls.Call.{Call}
 use Rattle.voice_model.specs.declared.calls.Reply.{Reply}
 use Rattle.voice_model.specs.declared.calls.Reply.TheVariants as replies
@@ -26,14 +27,18 @@ use Rattle.voice_blocks.specs.Holders.{holder_at}
 use Rattle.next_ropes.specs.Addresses.{KeepsAddresses}
 use Rattle.next_changes.specs.Next.{IsNext}
 use Rattle.next_changes.specs.declared.NextChange.{NextChange}
+use Rattle.next_changes.proofs.Given.{given}
+use Rattle.recovery.specs.Shown.{Shows}
 use Rattle.crash_laws.specs.Standing.{IsHeld}
 use Rattle.voice_store.specs.declared.inside.Inside.{Inside}
 use Rattle.voice_store.specs.declared.inside.Doubted.{Doubted}
-use Rattle.voice_store.specs.Stood.{tapes_of, last_of, in_form, Fills, Brings, IsSeated, IsHolding, Stood, Lands}
+use Rattle.voice_store.specs.Stood.{tapes_of, last_of, in_form, Fills, Brings, IsSeated, IsHolding, Plays, Stood, Lands}
 use Rattle.voice_store.specs.Facts.{entry_of, landing_at}
 use Rattle.voice_store.specs.Filled.{IsFilled}
 use Rattle.voice_store.specs.Trying.{Trying}
 use Rattle.voice_store.proofs.Filled.{still_filled, stays_elsewhere}
+use Rattle.voice_store.specs.Playing.{KeepsLanes}
+use Rattle.voice_store.proofs.Played.{Forgot, Unmoved, keeps_itself, keeps_committed, plays_forgot, plays_unmoved}
 use Rattle.voice_store.proofs.Pushed.{stood_pushed}
 use Rattle.voice_store.proofs.Settled.{is_true}
 
@@ -72,6 +77,24 @@ module _ (first : State) (t0 : ℕ) (old new : Told) (s s' : Inside) (b : Rebuil
       subst (λ (x : Shape). IsFilled tr.fill x new.bytes s'.parts.blocks.holders) (sym shape)
       (still_filled tr.fill s.journal.shape old.bytes new.bytes s.parts.blocks.holders s'.parts.blocks.holders keeps (stays_elsewhere s.journal.shape old.bytes new.bytes (elsewhere was)) (tr.upright.bytes was))
 
+  abbrev pub waiting : State
+  waiting = record last { doubt = Some (record { effect = effect; form = last.form }) }
+
+  pub next_waits : state_after last (tapes_of s) (said (replies.No why.InDoubt)) ≡ waiting
+  next_waits = tr.may.waits new.calls
+
+  valid_waits : IsState waiting
+  valid_waits = subst (λ (t : State). IsState t) next_waits (state_kept last (tapes_of s) (said (replies.No why.InDoubt)) tr.upright.valid tr.in_range tr.may.doubts)
+
+  -- the change fits, so the next number does not fall
+  fits : IsFit last.form last.kept effect
+  fits = valid_waits.doubt.1
+
+  -- the lanes play on while the change is in doubt, or was given back
+  plays_on : (then : State) → KeepsLanes last then → s'.journal.shape ≡ s.journal.shape → Unmoved s s' → Shows tr.held s'.parts b.kept → Plays tr.fill new.honest s' then
+  plays_on then keeps shape unmoved shows =
+      plays_unmoved tr.fill old.honest new.honest s s' last then alike shape keeps tr.playing unmoved tr.held b.kept (given tr.held tr.takings s.parts b next c tr.ready).runs.kept shows
+
   -- ---- it is done
 
   answers_done : IsAnswer last (tapes_of s) (said reply)
@@ -82,12 +105,12 @@ module _ (first : State) (t0 : ℕ) (old new : Told) (s s' : Inside) (b : Rebuil
 
   pub stood_done : (after' : Rebuilt) (doubt : Doubt) → (tapes : s'.tapes ≡ s.tapes) → s'.history.items ≡ s.history.items ++ said reply ∷ []
       → (IsTrue old.honest → SameElsewhere s.journal.shape old.bytes new.bytes) → KeepsAddresses s.parts.blocks.holders s'.parts.blocks.holders
-      → s'.journal.shape ≡ s.journal.shape → s'.journal.seat ≡ landed_seat s.journal.seat doubt → s'.journal.doubt ≡ None → s'.doubt ≡ None
+      → s'.journal.shape ≡ s.journal.shape → s'.journal.seat ≡ landed_seat s.journal.seat doubt → s'.journal.doubt ≡ None → s'.doubt ≡ None → Forgot s s'
       → Runs tr.held [] tr.takings s'.parts after' → Fills tr.fill after' (committed last last.form effect)
       → IsSeated (record s.journal { seat = landed_seat s.journal.seat doubt }) (committed last last.form effect)
       → (IsTrue new.honest → IsHeld first (tapes_of s) t0 s'.journal new after' after' (s.history.items ++ said reply ∷ []))
       → Stood first t0 new s'
-  stood_done after' doubt tapes items elsewhere keeps shape seat sure none tables fills seated held =
+  stood_done after' doubt tapes items elsewhere keeps shape seat sure none forgot tables fills seated held =
       let to : (P : State → Type 0) → P (committed last last.form effect) → P (state_after last (tapes_of s) (said reply)) = λ P p. subst P (sym next_done) p in
       stood_pushed first t0 old new s s' (said reply) tapes items tr.fill b after' b after' tr.held tr.takings tr.upright later alike refl (answer_on new.honest last (tapes_of s) (said reply) answers_done)
       (state_kept last (tapes_of s) (said reply) tr.upright.valid tr.in_range answers_done)
@@ -96,6 +119,7 @@ module _ (first : State) (t0 : ℕ) (old new : Told) (s s' : Inside) (b : Rebuil
       (to (λ t. IsSeated s'.journal t) (seated_as (record s.journal { seat = landed_seat s.journal.seat doubt }) s'.journal (committed last last.form effect) shape seat seated))
       held (still shape elsewhere keeps)
       (inl (record { sure = none; in_journal = sure; in_state = to (λ t. t.doubt ≡ None) tr.may.sure; tables = tables; same = refl }))
+      (to (λ t. Plays tr.fill new.honest s' t) (plays_forgot tr.fill old.honest new.honest s s' last (committed last last.form effect) alike shape (keeps_committed last last.form effect fits) tr.playing forgot))
       (shape_fits shape)
 
   -- ---- it failed before it counted
@@ -108,10 +132,10 @@ module _ (first : State) (t0 : ℕ) (old new : Told) (s s' : Inside) (b : Rebuil
 
   pub stood_failed : (tapes : s'.tapes ≡ s.tapes) → s'.history.items ≡ s.history.items ++ said (replies.No why.DiskFault) ∷ []
       → (IsTrue old.honest → SameElsewhere s.journal.shape old.bytes new.bytes) → KeepsAddresses s.parts.blocks.holders s'.parts.blocks.holders
-      → s'.journal.shape ≡ s.journal.shape → s'.journal.seat ≡ s.journal.seat → s'.journal.doubt ≡ None → s'.doubt ≡ None → Runs tr.held [] tr.takings s'.parts b
+      → s'.journal.shape ≡ s.journal.shape → s'.journal.seat ≡ s.journal.seat → s'.journal.doubt ≡ None → s'.doubt ≡ None → Unmoved s s' → Runs tr.held [] tr.takings s'.parts b
       → (IsTrue new.honest → IsHeld first (tapes_of s) t0 s'.journal new b b (s.history.items ++ said (replies.No why.DiskFault) ∷ []))
       → Stood first t0 new s'
-  stood_failed tapes items elsewhere keeps shape seat sure none tables held =
+  stood_failed tapes items elsewhere keeps shape seat sure none unmoved tables held =
       let e = said (replies.No why.DiskFault) in
       let to : (P : State → Type 0) → P last → P (state_after last (tapes_of s) e) = λ P p. subst P (sym next_failed) p in
       stood_pushed first t0 old new s s' e tapes items tr.fill b b b b tr.held tr.takings tr.upright later alike refl (answer_on new.honest last (tapes_of s) e tr.may.faults.answers)
@@ -121,22 +145,14 @@ module _ (first : State) (t0 : ℕ) (old new : Told) (s s' : Inside) (b : Rebuil
       (to (λ t. IsSeated s'.journal t) (seated_as s.journal s'.journal last shape seat tr.upright.seated))
       held (still shape elsewhere keeps)
       (inl (record { sure = none; in_journal = sure; in_state = to (λ t. t.doubt ≡ None) tr.may.sure; tables = tables; same = refl }))
+      (to (λ t. Plays tr.fill new.honest s' t) (plays_on last (keeps_itself last) shape unmoved tables.kept))
       (shape_fits shape)
 
   -- ---- it is in doubt
 
-  abbrev pub waiting : State
-  waiting = record last { doubt = Some (record { effect = effect; form = last.form }) }
-
-  pub next_waits : state_after last (tapes_of s) (said (replies.No why.InDoubt)) ≡ waiting
-  next_waits = tr.may.waits new.calls
-
   -- once it lands, the state is the one with the change
   pub lands_then : landed waiting ≡ committed last last.form effect
   lands_then = ap (λ (o : Option Pending). committed (record last { doubt = o }) last.form effect) (sym tr.may.sure)
-
-  valid_waits : IsState waiting
-  valid_waits = subst (λ (t : State). IsState t) next_waits (state_kept last (tapes_of s) (said (replies.No why.InDoubt)) tr.upright.valid tr.in_range tr.may.doubts)
 
   valid_landed : IsState (landed waiting)
   valid_landed = state_kept waiting (tapes_of s) (landing_at 0) valid_waits tt (refl, refl, is_true)
@@ -144,13 +160,13 @@ module _ (first : State) (t0 : ℕ) (old new : Told) (s s' : Inside) (b : Rebuil
   pub stood_waits : (after' : Rebuilt) (doubt : Doubt) (doubted : Doubted) → doubted.next ≡ next → (tapes : s'.tapes ≡ s.tapes)
       → s'.history.items ≡ s.history.items ++ said (replies.No why.InDoubt) ∷ []
       → (IsTrue old.honest → SameElsewhere s.journal.shape old.bytes new.bytes)
-      → s'.journal.shape ≡ s.journal.shape → s'.journal.seat ≡ s.journal.seat → s'.journal.doubt ≡ Some doubt → s'.doubt ≡ Some doubted → s'.parts ≡ s.parts
-      → ((parts : Parts) → Runs tr.held [] tr.takings parts (acted b c) → Runs tr.held [] tr.takings (in_form doubted.form parts) after')
+      → s'.journal.shape ≡ s.journal.shape → s'.journal.seat ≡ s.journal.seat → s'.journal.doubt ≡ Some doubt → s'.doubt ≡ Some doubted → s'.parts ≡ s.parts → Unmoved s s'
+      → ((held : List (List Piece)) (takings : List ℕ) (parts : Parts) → Runs held [] takings parts (acted b c) → Runs held [] takings (in_form doubted.form parts) after')
       → Fills tr.fill after' (committed last last.form effect)
       → IsSeated (record s.journal { seat = landed_seat s.journal.seat doubt }) (committed last last.form effect)
       → (IsTrue new.honest → IsHeld first (tapes_of s) t0 s'.journal new b after' (s.history.items ++ said (replies.No why.InDoubt) ∷ []))
       → Stood first t0 new s'
-  stood_waits after' doubt doubted same tapes items elsewhere shape seat unsure some parts tables fills seated held =
+  stood_waits after' doubt doubted same tapes items elsewhere shape seat unsure some parts unmoved tables fills seated held =
       let e = said (replies.No why.InDoubt) in
       let to : (P : State → Type 0) → P waiting → P (state_after last (tapes_of s) e) = λ P p. subst P (sym next_waits) p in
       let there : (P : State → Type 0) → P (committed last last.form effect) → P (landed waiting) = λ P p. subst P (sym lands_then) p in
@@ -174,7 +190,7 @@ module _ (first : State) (t0 : ℕ) (old new : Told) (s s' : Inside) (b : Rebuil
         addresses = tr.addresses;
         spelled = tr.change;
         brings_it = to (λ t. Brings tr.fill b c t effect) (record { spots = tr.brings_it.spots; kept = tr.brings_it.kept });
-        lands = to (λ t. Lands tr.fill tr.held tr.takings s'.journal doubted b after' t c doubt) (record {
+        lands = to (λ t. Lands tr.fill s'.journal doubted b after' t c doubt) (record {
           tables = tables;
           fills = there (λ t. Fills tr.fill after' t) fills;
           seated = there (λ t. IsSeated (record s'.journal { seat = landed_seat s'.journal.seat doubt }) t)
@@ -182,4 +198,7 @@ module _ (first : State) (t0 : ℕ) (old new : Told) (s s' : Inside) (b : Rebuil
           valid = valid_landed;
         });
       }))
+      (to (λ t. Plays tr.fill new.honest s' t)
+      (plays_on waiting (record { lanes = refl; made = refl; shape = refl; next = omega arith }) shape unmoved
+      (subst (λ (p : Parts). Shows tr.held p b.kept) (sym parts) (given tr.held tr.takings s.parts b next c tr.ready).runs.kept)))
       (shape_fits shape)

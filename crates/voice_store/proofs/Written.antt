@@ -39,6 +39,7 @@ use Rattle.running_tables.specs.Running.{Runs}
 use Rattle.running_tables.proofs.Taken.{none_yet}
 use Rattle.next_ropes.specs.Addresses.{KeepsAddresses, HandsOut}
 use Rattle.recovery.specs.declared.parts.Parts.{Parts}
+use Rattle.recovery.specs.Shown.{Shows}
 use Rattle.next_ropes.specs.Ready.{IsReady, next_change}
 use Rattle.next_ropes.specs.declared.NextRope.{NextRope}
 use Rattle.next_ropes.proofs.Readied.{recorded_samples}
@@ -53,7 +54,7 @@ use Rattle.crash_laws.proofs.Writing.{writes_carry}
 use Rattle.crash_laws.proofs.Noted.{entries_count}
 use Rattle.voice_store.specs.declared.inside.Inside.{Inside}
 use Rattle.voice_store.specs.Filled.{IsFilled, IsPadded}
-use Rattle.voice_store.specs.Stood.{last_of, tapes_of, Upright, IsSure, Stood}
+use Rattle.voice_store.specs.Stood.{last_of, tapes_of, Upright, IsSure, Plays, Stood}
 use Rattle.voice_store.proofs.Filled.{placed_each, next_only, unwritten_filled, written_filled}
 use Rattle.voice_store.specs.Facts.{MayCommit, entry_of}
 use Rattle.voice_store.specs.Trying.{IsPlan, Trying}
@@ -62,6 +63,7 @@ use Rattle.voice_store.specs.declared.ways.Way.{Way}
 use Rattle.voice_store.proofs.Kept.{is_sure, upright_by, same_number, same_shape}
 use Rattle.voice_store.proofs.Entries.{acks_later, stood_noted}
 use Rattle.voice_store.proofs.Pushed.{as_honest}
+use Rattle.voice_store.proofs.Played.{playing_by, playing_later, playing_as_honest}
 use Rattle.voice_store.proofs.Making.{IsMaking, may_commit}
 use Rattle.voice_store.proofs.Recordable.{many as taken_as, recording_free}
 use Rattle.voice_store.proofs.Spared.{below_at, free_at, distinct_at, spares_within}
@@ -280,6 +282,18 @@ module _ (first : State) (t0 : ℕ) (old : Told) (s : Inside) (take : Take) (nex
       bytes = filled;
     }
 
+    -- the lanes play on over tables that show the same
+    plays_by : (parts : Parts) → Shows h.makes.stood.held parts b.kept → Plays h.makes.stood.fill new.honest (record s { parts = parts }) last
+    plays_by parts shows =
+        playing_as_honest h.makes.stood.fill old.honest new.honest s.journal.shape.block parts.ropes s.lanes s.made last alike
+        (playing_by h.makes.stood.held h.before parts b.kept tables_then.tables.kept shows h.makes.stood.fill old.honest s.journal.shape.block s.lanes s.made last h.makes.stood.playing)
+
+    -- also where the recording's bytes are filled in
+    plays_later : Plays later new.honest s last
+    plays_later =
+        playing_later h.makes.stood.fill h.makes.stood.upright.fills.spots last.next bytes new.honest s.journal.shape.block h.makes.stood.held (next.pieces ∷ []) h.makes.stood.takings s.parts b s.lanes s.made last
+        h.ready.runs number refl (plays_by s.parts h.ready.runs.kept)
+
     -- all was written
     pub trying_recording : (caller : ℕ) → (IsTrue old.honest → HasBytes new.bytes s.journal.shape addresses bytes) → (IsTrue old.honest → IsPadded new.bytes s.journal.shape addresses (length bytes)) → (answer : Reply) → answer ≡ reply → Trying first t0 new s b (changes.Rope next) change effect caller (calls.Record take) answer
     trying_recording caller has padded answer answers = record {
@@ -291,6 +305,7 @@ module _ (first : State) (t0 : ℕ) (old : Told) (s : Inside) (take : Take) (nex
       takings = h.makes.stood.takings;
       holding = h.makes.stood.holding;
       ready = h.ready;
+      playing = plays_later;
       addresses = addresses;
       change = the_change;
       may = may caller;
@@ -321,6 +336,7 @@ module _ (first : State) (t0 : ℕ) (old : Told) (s : Inside) (take : Take) (nex
           holding = h.makes.stood.holding;
           upright = upright_on parts (back_filled parts keeps shows);
           tables = inl (record { sure = h.makes.sure; in_journal = tables_then.in_journal; in_state = tables_then.in_state; tables = shows; same = refl });
+          playing = plays_by parts shows.kept;
           size = let is = h.makes.stood.size in omega (arith, is, sizes_same);
         } in
         let faults = (may caller).faults in

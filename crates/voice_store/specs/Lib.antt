@@ -4,6 +4,7 @@ pub mod DeviceCalls
 pub mod Facts
 pub mod Filled
 pub mod Keeping
+pub mod Playing
 pub mod Shown
 pub mod Spare
 pub mod Stood

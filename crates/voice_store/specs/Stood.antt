@@ -8,6 +8,7 @@
 --     AcksRise low history high      the moments of the entries never fall, and lie between these
 --     Upright      the history is legal (on a disk that isn't honest but for what was read off it), the disk holds it, and its blocks have their bytes, whatever ropes the tables show
 --     IsSure, IsUnsure      the tables show the state: nothing is in doubt, or a change is ready to be done
+--     Plays fill honest s last      the lanes of the program show those of a state
 --     Stood      all of it, but for the count of faults
 use Rattle.std.specs.Prelude.{◌≡◌, ◌⊎◌, ℕ, ◌+◌, ◌≤◌, Bool, true, false, List, [], ◌∷◌, Some, None, IsTrue}
 use Rattle.std.specs.Arc.{arc_value}
@@ -33,6 +34,7 @@ use Rattle.recovery.specs.declared.parts.Parts.{Parts}
 use Rattle.next_changes.specs.Next.{IsNext}
 use Rattle.crash_laws.specs.Standing.{IsHeld}
 use Rattle.voice_store.specs.Filled.{IsFilled}
+use Rattle.voice_store.specs.Playing.{IsPlaying}
 use Rattle.voice_store.specs.declared.inside.Doubted.{Doubted}
 use Rattle.voice_store.specs.declared.inside.Inside.{Inside}
 
@@ -113,9 +115,9 @@ pub record IsSure (held : List (List Piece)) (takings : List ℕ) (s : Inside) (
 abbrev pub in_form : ℕ → Parts → Parts
 in_form form parts = record parts { form = form }
 
--- once what is in doubt has landed, and is done, the tables show the state
-pub record Lands (fill : Spot → Tagged) (held : List (List Piece)) (takings : List ℕ) (journal : JournalValue) (doubted : Doubted) (b after : Rebuilt) (last : State) (c : Change) (doubt : Doubt) : Type 0 where
-  pub tables : (parts : Parts) → Runs held [] takings parts (acted b c) → Runs held [] takings (in_form doubted.form parts) after
+-- once what is in doubt has landed, and is done, the tables show the state, whatever passages are held then
+pub record Lands (fill : Spot → Tagged) (journal : JournalValue) (doubted : Doubted) (b after : Rebuilt) (last : State) (c : Change) (doubt : Doubt) : Type 0 where
+  pub tables : (held : List (List Piece)) (takings : List ℕ) (parts : Parts) → Runs held [] takings parts (acted b c) → Runs held [] takings (in_form doubted.form parts) after
   pub fills : Fills fill after (landed last)
   pub seated : IsSeated (record journal { seat = landed_seat journal.seat doubt }) (landed last)
   pub valid : IsState (landed last)
@@ -133,7 +135,11 @@ pub record IsUnsure (fill : Spot → Tagged) (held : List (List Piece)) (takings
   pub addresses : List ℕ
   pub spelled : change ≡ change_of b.form addresses pending.effect
   pub brings_it : Brings fill b change last pending.effect
-  pub lands : Lands fill held takings s.journal doubted b after last change doubt
+  pub lands : Lands fill s.journal doubted b after last change doubt
+
+-- the lanes of the program show those of a state
+abbrev pub Plays : (Spot → Tagged) → Bool → Inside → State → Type 0
+Plays fill honest s last = IsPlaying fill honest s.journal.shape.block s.parts.ropes s.lanes s.made last
 
 -- what a store keeps, between its calls, that was opened at moment t0
 pub record Stood (first : State) (t0 : ℕ) (disk : Told) (s : Inside) : Type 0 where
@@ -145,4 +151,5 @@ pub record Stood (first : State) (t0 : ℕ) (disk : Told) (s : Inside) : Type 0 
   pub holding : IsHolding held takings s.journal.shape.block (last_of first s).lanes
   pub upright : Upright first t0 disk s fill b after
   pub tables : IsSure held takings s b after (last_of first s) ⊎ IsUnsure fill held takings s b after (last_of first s)
+  pub playing : Plays fill disk.honest s (last_of first s)
   pub size : extent s.journal.shape ≤ disk.size

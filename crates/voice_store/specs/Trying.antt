@@ -32,7 +32,7 @@ use Rattle.voice_store.specs.declared.committing.Plan.{Plan}
 use Rattle.voice_store.specs.declared.committing.Plan.TheVariants as plans
 use Rattle.voice_store.specs.Ways.{FitsBehind, FitsOther}
 use Rattle.voice_store.specs.declared.inside.Inside.{Inside}
-use Rattle.voice_store.specs.Stood.{tapes_of, last_of, IsHolding, Upright, Brings}
+use Rattle.voice_store.specs.Stood.{tapes_of, last_of, IsHolding, Plays, Upright, Brings}
 use Rattle.voice_store.specs.Facts.{MayCommit}
 
 -- the form that a switch takes: 2, but 1 from form 1 where a base of form 2 does not fit an area
@@ -59,6 +59,7 @@ pub record Trying (first : State) (t0 : ℕ) (disk : Told) (s : Inside) (b : Reb
   pub takings : List ℕ
   pub holding : IsHolding held takings s.journal.shape.block (last_of first s).lanes
   pub ready : IsNext held takings s.parts b next c
+  pub playing : Plays fill disk.honest s (last_of first s)
   pub addresses : List ℕ
   pub change : c ≡ change_of b.form addresses effect
   pub may : MayCommit (last_of first s) (tapes_of s) caller call effect

@@ -12,6 +12,8 @@ ghost use Rattle.running_tables.specs.Running.{Runs};
 ghost use Rattle.checkpoint.specs.Compact.{ShowsUsed};
 ghost use Rattle.next_ropes.specs.Addresses.{KeepsAddresses};
 ghost use Rattle.next_changes.specs.Next.{IsNext, payload_of};
+ghost use Rattle.playing.specs.Frames.{HoldsBytes};
+ghost use Rattle.lane_calls.specs.Answers.{HaveForgotten};
 ghost use Rattle.voice_store.specs.Stood.{Stood, last_of};
 ghost use Rattle.voice_store.specs.Ways.{FitsBehind, FitsOther};
 ghost use Rattle.voice_store.specs.Trying.{IsBaseOf, Trying, IsReadyIn, IsPlan, CanGo};
@@ -70,17 +72,20 @@ impl Inside {
         base_of(self.alloc, &shape, &after)
     }
 
-    // The change is done, and the call is entered.
+    // The change is done, frames forget the blocks that nothing uses any longer, and the call is entered.
     fn done<D: Disk>(&mut self, disk: &D, caller: u16, call: Call, reply: Reply, next: NextChange)
         requires ready { IsReadyIn self.old next }
         requires room { vec_len self.old.history < vec_capacity self.old.history }
         ensures tables { (held : List (List Piece)) (takings : List ℕ) (b : Rebuilt) (c : Change) → IsNext held takings self.old.parts b next c → b.shape ≡ self.old.journal.shape → Runs held [] takings self.new.parts (acted b c) }
         ensures kept { KeepsAddresses self.old.parts.blocks.holders self.new.parts.blocks.holders }
         ensures items { self.new.history.items ≡ self.old.history.items ++ entry_of caller call reply (D.told disk.now).calls ∷ [] }
-        ensures rest { self.new ≡ record self.old { parts = self.new.parts; history = self.new.history } }
+        ensures lanes { HaveForgotten self.new.parts.ropes self.old.lanes self.new.lanes }
+        ensures bytes { (bytes : ℕ → ℕ → List ℕ) → HoldsBytes bytes self.old.lanes.frames → HoldsBytes bytes self.new.lanes.frames }
+        ensures rest { self.new ≡ record self.old { parts = self.new.parts; lanes = self.new.lanes; history = self.new.history } }
     {
         let shape = self.journal.shape();
         perform(&mut self.parts, &shape, next);
+        self.lanes.forget_unused(&self.parts.ropes);
         enter(&mut self.history, caller, call, reply, disk.calls());
     }
 

@@ -1,6 +1,7 @@
 //! What a store keeps.
 
 use next_changes::NextChange;
+use playing::Lanes;
 use recovery::Parts;
 use std::alloc::Global;
 use std::sync::Arc;
@@ -14,13 +15,15 @@ pub struct Doubted {
     pub form: u8,
 }
 
-/// What a store keeps besides its disk: the journal, the tables, the change in doubt, and the history.
+/// What a store keeps besides its disk: the journal, the tables, the lanes with the number of jobs made so far, the change in doubt, and the history.
 #[derive(Drop)]
 pub struct Inside {
     pub alloc: Global,
     pub tapes: Arc<Tapes, Global>,
     pub journal: Journal,
     pub parts: Parts,
+    pub lanes: Lanes,
+    pub made: u64,
     pub doubt: Option<Doubted>,
     pub history: Vec<Entry>,
 }

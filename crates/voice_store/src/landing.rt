@@ -9,6 +9,8 @@ ghost use Rattle.voice_outside.specs.Counters.{HasRisen};
 ghost use Rattle.running_tables.specs.Running.{Runs};
 ghost use Rattle.next_ropes.specs.Addresses.{KeepsAddresses};
 ghost use Rattle.next_changes.specs.Next.{IsNext};
+ghost use Rattle.playing.specs.Frames.{HoldsBytes};
+ghost use Rattle.lane_calls.specs.Answers.{HaveForgotten};
 ghost use Rattle.voice_model.specs.Step.{landed};
 ghost use Rattle.voice_store.specs.Stood.{Stood, in_form, last_of};
 ghost use Rattle.voice_store.specs.Trying.{IsReadyIn};
@@ -23,16 +25,19 @@ use voice_model::{Call, Reply};
 use voice_outside::Disk;
 
 impl Inside {
-    // Does the change that has landed.
+    // Does the change that has landed; frames forget the blocks that nothing uses any longer.
     fn take_in(&mut self, doubted: Doubted)
         requires { IsReadyIn self.old doubted.next }
         ensures tables { (held : List (List Piece)) (takings : List ℕ) (b : Rebuilt) (c : Change) → IsNext held takings self.old.parts b doubted.next c → b.shape ≡ self.old.journal.shape → Runs held [] takings (in_form b.form self.new.parts) (acted b c) }
         ensures kept { KeepsAddresses self.old.parts.blocks.holders self.new.parts.blocks.holders }
         ensures form { self.new.parts.form ≡ doubted.form }
-        ensures rest { self.new ≡ record self.old { parts = self.new.parts } }
+        ensures lanes { HaveForgotten self.new.parts.ropes self.old.lanes self.new.lanes }
+        ensures bytes { (bytes : ℕ → ℕ → List ℕ) → HoldsBytes bytes self.old.lanes.frames → HoldsBytes bytes self.new.lanes.frames }
+        ensures rest { self.new ≡ record self.old { parts = self.new.parts; lanes = self.new.lanes } }
     {
         let shape = self.journal.shape();
         perform(&mut self.parts, &shape, doubted.next);
+        self.lanes.forget_unused(&self.parts.ropes);
         self.parts.form = doubted.form;
     }
 

@@ -14,6 +14,7 @@ ghost use Rattle.voice_store.specs.Facts.{Goes};
 
 use crate::inside::Inside;
 use crash_laws::laws::foundations;
+use playing::Lanes;
 use recovery::{Parts, ReplayError, replay};
 use std::alloc::Global;
 use std::sync::Arc;
@@ -68,11 +69,16 @@ impl Inside {
         } = Journal::open(alloc, disk)?;
         foundations();
         let parts = rebuild(alloc, &shape, &payloads)?;
+        let Ok(lanes) = Lanes::new(alloc, shape.lanes, shape.block) else {
+            return Err(OpenError::NoMemory);
+        };
         Ok(Inside {
             alloc,
             tapes,
             journal,
             parts,
+            lanes,
+            made: 0,
             doubt: None,
             history: Vec::new(alloc),
         })

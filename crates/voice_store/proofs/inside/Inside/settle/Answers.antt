@@ -78,7 +78,8 @@ returns-clause-stood g c =
     let items : s'.history.items ≡ s.history.items ++ landing_at new.calls ∷ [] =
     c.enter.ensures.items ∙ ap (λ (l : List Entry). l ++ landing_at c.calls.result ∷ []) on_same ∙ ap (λ (n : ℕ). s.history.items ++ landing_at n ∷ []) now in
     stood_landed first t0 old new s s' stood unsure made.later made.size made.honest moments (landings_carry c.foundations.ensures old new)
-    (ap (λ (x : Inside). x.tapes) rest) items c.land.ensures.bytes c.take_in.ensures.kept (ap (λ (x : Inside). x.journal) rest ∙ journal) (ap (λ (x : Inside). x.doubt) rest ∙ taken)
+    (ap (λ (x : Inside). x.tapes) rest) items c.land.ensures.bytes c.take_in.ensures.kept (ap (λ (x : Inside). x.journal) rest ∙ journal)
+    (record { forgot = c.take_in.ensures.lanes; bytes = c.take_in.ensures.bytes; made = ap (λ (x : Inside). x.made) rest }) (ap (λ (x : Inside). x.doubt) rest ∙ taken)
     (c.take_in.ensures.form ∙ ap (λ (d : Doubted). d.form) (sym same)) tables
     (λ h. (
       subst (λ (j : JournalValue). Lands s.journal j old new) (sym (ap (λ (x : Inside). x.journal) rest))

@@ -54,6 +54,7 @@ returns-in-Ok-clause-stood g c =
     (ap (λ (j : JournalValue). j.seat) (on_journal ∙ journal))
     (ap (λ (j : JournalValue). j.doubt) (on_journal ∙ journal) ∙ tr.in_journal)
     (ap (λ (x : Inside). x.doubt) rest ∙ tr.sure)
+    (record { forgot = c.done.ensures.lanes; bytes = c.done.ensures.bytes; made = ap (λ (x : Inside). x.made) rest })
     done.parts
     (c.done.ensures.tables tr.held tr.takings b c' tr.ready (shape_tried first t0 old s b c.args.next c' effect c.args.caller c.args.call c.args.replies.0 tr ∙ sym (ap (λ (j : JournalValue). j.shape) journal)))
     refl
@@ -86,6 +87,7 @@ returns-in-Err-Before-clause-stood g c =
     (ap (λ (j : JournalValue). j.seat) (on_journal ∙ journal))
     (ap (λ (j : JournalValue). j.doubt) (on_journal ∙ journal) ∙ tr.in_journal)
     (ap (λ (x : Inside). x.doubt) rest ∙ tr.sure)
+    (record { lanes = ap (λ (x : Inside). x.lanes) rest; made = ap (λ (x : Inside). x.made) rest })
     (c.failed.ensures.tables tr.held tr.takings b c' tr.ready)
     (failures_carry c.foundations.ensures old new)
     (λ h. subst (λ (j : JournalValue). Undoes s.journal j old new) (sym on_journal) (λ r stands. c.in-Err-Before.ensures.before h r stands before))
@@ -119,5 +121,6 @@ returns-clause-stood g c =
     (ap (λ (j : JournalValue). j.doubt) (on_journal ∙ journal))
     (ap (λ (x : Inside). x.doubt) rest)
     (ap (λ (x : Inside). x.parts) rest)
+    (record { lanes = ap (λ (x : Inside). x.lanes) rest; made = ap (λ (x : Inside). x.made) rest })
     (switches_carry c.foundations.ensures old new)
     (λ h. (subst (λ (j : JournalValue). Doubts (λ r. switched r c.args.base.now.payloads) s.journal j old new) (sym on_journal) (λ r stands. c.in-Err-Doubt.ensures.doubt h r stands doubt), c.switch.ensures.crash h))
