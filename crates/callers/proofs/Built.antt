@@ -46,10 +46,10 @@ asked_well tapes (verbs.Census keys) b call h same = is_asked_by tapes (verbs.Ce
 asked_well tapes (verbs.Advance moment) b call h same = is_asked_by tapes (verbs.Advance moment) b call (calls.Advance moment) same (record { built = refl; takes = λ _. tt; ropes = λ _. tt; range = λ h. h })
 asked_well tapes (verbs.Sweep limit) b call h same = is_asked_by tapes (verbs.Sweep limit) b call (calls.Sweep limit) same (record { built = refl; takes = λ _. tt; ropes = λ _. tt; range = λ _. tt })
 asked_well tapes (verbs.Describe rope) b call h same = is_asked_by tapes (verbs.Describe rope) b call (calls.Describe (meant b rope)) same (record { built = refl; takes = λ _. tt; ropes = λ _. tt; range = λ _. tt })
-asked_well tapes (verbs.Queue lane rope start len) b call h same = absurd (no h)
+asked_well tapes (verbs.Queue lane rope start len) b call h same = is_asked_by tapes (verbs.Queue lane rope start len) b call (calls.Play lane (meant b rope) start len) same (record { built = refl; takes = λ _. tt; ropes = λ _. tt; range = λ _. tt })
 asked_well tapes (verbs.Play lane rope start len) b call h same = absurd (no h)
 asked_well tapes (verbs.Serve lane) b call h same = absurd (no h)
-asked_well tapes (verbs.Stop lane) b call h same = absurd (no h)
+asked_well tapes (verbs.Stop lane) b call h same = is_asked_by tapes (verbs.Stop lane) b call (calls.Stop lane) same (record { built = refl; takes = λ _. tt; ropes = λ _. tt; range = λ _. tt })
 asked_well tapes (verbs.Begin lane) b call h same = absurd (no h)
 asked_well tapes (verbs.Add lane tape) b call h same = absurd (no h)
 asked_well tapes (verbs.End lane) b call h same = absurd (no h)
@@ -69,10 +69,10 @@ asks_something tapes (verbs.Census keys) b h none = cc
 asks_something tapes (verbs.Advance moment) b h none = cc
 asks_something tapes (verbs.Sweep limit) b h none = cc
 asks_something tapes (verbs.Describe rope) b h none = cc
-asks_something tapes (verbs.Queue lane rope start len) b h none = no h
+asks_something tapes (verbs.Queue lane rope start len) b h none = cc
 asks_something tapes (verbs.Play lane rope start len) b h none = no h
 asks_something tapes (verbs.Serve lane) b h none = no h
-asks_something tapes (verbs.Stop lane) b h none = no h
+asks_something tapes (verbs.Stop lane) b h none = cc
 asks_something tapes (verbs.Begin lane) b h none = no h
 asks_something tapes (verbs.Add lane tape) b h none = no h
 asks_something tapes (verbs.End lane) b h none = no h
@@ -92,10 +92,10 @@ serves_none (verbs.Census keys) h = refl
 serves_none (verbs.Advance moment) h = refl
 serves_none (verbs.Sweep limit) h = refl
 serves_none (verbs.Describe rope) h = refl
-serves_none (verbs.Queue lane rope start len) h = absurd (no h)
+serves_none (verbs.Queue lane rope start len) h = refl
 serves_none (verbs.Play lane rope start len) h = absurd (no h)
 serves_none (verbs.Serve lane) h = absurd (no h)
-serves_none (verbs.Stop lane) h = absurd (no h)
+serves_none (verbs.Stop lane) h = refl
 serves_none (verbs.Begin lane) h = absurd (no h)
 serves_none (verbs.Add lane tape) h = absurd (no h)
 serves_none (verbs.End lane) h = absurd (no h)

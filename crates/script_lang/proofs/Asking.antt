@@ -96,7 +96,7 @@ asked_same tapes (verbs.Add lane tape) a b h = refl
 asked_same tapes (verbs.End lane) a b h = refl
 asked_same tapes (verbs.Levels rope) a b h = ap (λ n. Some (calls.Levels n)) (meant_same a b rope h)
 
--- a verb is built where its call is
+-- a verb is built where its call is, but one that serves a lane
 pub built_alike : (tapes : List (List ℕ)) (verb : Verb) (b : List Binding) → IsBuiltAlike (verb_name verb) (asked tapes verb b)
 built_alike tapes (verbs.Record tape) b = refl
 built_alike tapes (verbs.Concat args) b = refl

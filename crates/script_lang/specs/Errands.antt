@@ -5,9 +5,9 @@
 --     HasItsRopes verb      a concat has 1 to 16 ropes
 --     IsInItsRange verb      the key and the note of a retain and the moment of an advance are in their ranges
 --     SameValues a b      each variable stands for the same rope in both
---     IsBuiltAlike name call      a verb is built where its call is
+--     IsBuiltAlike name call      a verb is built where its call is, but one that serves a lane, since no serving is built yet
 --     IsAskedOf call      a caller may ask the call
-use Rattle.std.specs.Prelude.{ℕ, List, ◌≡◌, ◌≤◌, ◌<◌, ◌^◌, true, IsTrue, Option, Some, None, map, length}
+use Rattle.std.specs.Prelude.{ℕ, Bool, List, ◌≡◌, ◌≤◌, ◌<◌, ◌^◌, ◌&&◌, not, true, false, IsTrue, Option, Some, None, map, length}
 use Rattle.voice_model.specs.declared.calls.Call.{Call}
 use Rattle.voice_model.specs.declared.calls.Call.TheVariants as calls
 use Rattle.voice_model.specs.Spelling.{is_key}
@@ -17,6 +17,7 @@ use Rattle.voice_model.specs.Step.{is_asked_of}
 use Rattle.built_calls.specs.Built.{is_built}
 use Rattle.script_lang.specs.declared.scripts.Line.{Line}
 use Rattle.script_lang.specs.declared.verbs.VerbName.{VerbName}
+use Rattle.script_lang.specs.declared.verbs.VerbName.TheVariants as names
 use Rattle.script_lang.specs.Verbs.{is_built_verb}
 use Rattle.script_lang.specs.Parts.{served}
 use Rattle.script_lang.specs.declared.scripts.RopeArg.{RopeArg}
@@ -77,10 +78,16 @@ errand_of tapes line = record { asks = asked tapes line.verb; binds = line.bind;
 abbrev pub SameValues : List Binding → List Binding → Type 0
 SameValues a b = (name : List ℕ) → value_of a name ≡ value_of b name
 
--- a verb is built where its call is
+-- whether a line with this verb serves a lane
+abbrev pub serves_lane : VerbName → Bool
+serves_lane names.Play = true
+serves_lane names.Serve = true
+serves_lane _ = false
+
+-- a verb is built where its call is, but one that serves a lane, since no serving is built yet
 abbrev pub IsBuiltAlike : VerbName → Option Call → Type 0
 IsBuiltAlike name None = Unit {0}
-IsBuiltAlike name (Some call) = is_built call ≡ is_built_verb name
+IsBuiltAlike name (Some call) = is_built_verb name ≡ (is_built call && not (serves_lane name))
 
 -- a caller may ask the call
 abbrev pub IsAskedOf : Option Call → Type 0

@@ -117,6 +117,8 @@ impl VerbName {
                 | VerbName::Length
                 | VerbName::Describe
                 | VerbName::Levels
+                | VerbName::Queue
+                | VerbName::Stop
                 | VerbName::Retain
                 | VerbName::Forget
                 | VerbName::Lookup

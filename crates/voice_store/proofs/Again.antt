@@ -22,7 +22,7 @@ use Rattle.voice_store.proofs.Refused.{wrong}
 
 -- ---- filled in as themselves
 
-abbrev EachOf : (Tagged → Type 0) → List (Live Tagged) → Type 0
+abbrev pub EachOf : (Tagged → Type 0) → List (Live Tagged) → Type 0
 EachOf P ropes = Every (λ rope. Every P rope.samples) ropes
 
 module _ (P : Tagged → Type 0) (ropes : List (Live Tagged)) (each : EachOf P ropes) where
@@ -41,7 +41,7 @@ module _ (P : Tagged → Type 0) (ropes : List (Live Tagged)) (each : EachOf P r
   of_joined [] = tt
   of_joined (id ∷ ids) = every-append P (samples_of ropes id) (joined ropes ids) (of_rope id) (of_joined ids)
 
-  of_slice : (id start len : ℕ) → Every P (slice (samples_of ropes id) start len)
+  pub of_slice : (id start len : ℕ) → Every P (slice (samples_of ropes id) start len)
   of_slice id start len = every_take P len (drop start (samples_of ropes id)) (every_drop P start (samples_of ropes id) (of_rope id))
 
   of_replaced : (id start len other : ℕ) → Every P (replaced (samples_of ropes id) start len (samples_of ropes other))

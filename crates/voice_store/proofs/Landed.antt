@@ -55,6 +55,11 @@ pub on_error : {A E : Type 0} (P Q : Type 0) → (P → Q) → (r : Result A E) 
 on_error P Q f (Ok x) h = h
 on_error P Q f (Err e) h = f h
 
+-- no device call was made
+pub none_made : {A E : Type 0} (calls most : ℕ) → (r : Result A E) → OnErr r (calls ≤ calls + most)
+none_made calls most (Ok x) = tt
+none_made calls most (Err e) = omega arith
+
 -- ---- room for more entries
 
 module _ (first : State) (t0 : ℕ) (disk : Told) (s : Inside) (history : Vec Entry Global) (is : history.items ≡ s.history.items) where

@@ -16,6 +16,7 @@ pub mod Making
 pub mod Filled
 pub mod Played
 pub mod Pushed
+pub mod Queued
 pub mod Recordable
 pub mod Recorded
 pub mod Refusals

@@ -17,6 +17,8 @@ abbrev pub IsAsking : Call → Asks → Type 0
 IsAsking call (asks.Length rope) = call ≡ calls.Length rope
 IsAsking call (asks.Interest class key) = call ≡ calls.Lookup class key
 IsAsking call (asks.Sound sound rope) = call ≡ call_for sound rope
+IsAsking call (asks.Job lane rope start len) = call ≡ calls.Play lane rope start len
+IsAsking call (asks.Stop lane) = call ≡ calls.Stop lane
 IsAsking call asks.Change = IsTrue (is_changing call)
 
 -- an interest stands, of this rope and with this note

@@ -10,7 +10,7 @@
 --     TakesAreIn, HasRopes      what the store wants of the words of a call
 --     is_edit call      a call that makes a rope of others
 --     hears call      a call that hears a rope
---     only_tells call      a call that is answered by the tables alone
+--     only_tells call      a call that is answered by the tables and the lanes, without memory
 --     stretches_of s id      how many stretches a rope has
 --     most_reads s call      how many blocks it reads, at most
 use Rattle.std.specs.Prelude.{◌≡◌, ◌⊎◌, ℕ, ◌+◌, ◌≤◌, Bool, true, false, List, [], ◌∷◌, ◌++◌, length, Some, None}
@@ -103,10 +103,11 @@ hears (calls.Describe id) = true
 hears (calls.Levels id) = true
 hears _ = false
 
--- a call that is answered by the tables alone
+-- a call that is answered by the tables and the lanes, without memory
 abbrev pub only_tells : Call → Bool
 only_tells (calls.Length id) = true
 only_tells (calls.Lookup class key) = true
+only_tells (calls.Stop lane) = true
 only_tells _ = false
 
 -- how many stretches a rope has, none where it is not live

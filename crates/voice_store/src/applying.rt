@@ -17,15 +17,18 @@ ghost use Rattle.built_calls.specs.Built.{is_built};
 
 use crate::hearing::Sound;
 use crate::inside::Inside;
+use crate::jobs::Passage;
 use voice_model::{Call, Class, Key, Reply, Why};
 use voice_outside::Disk;
-use voice_units::{NoMemory, RopeId};
+use voice_units::{Lane, NoMemory, RopeId};
 
-/// What a call asks of the tables or of the disk, or that it is of a kind that makes changes.
+/// What a call asks of the tables, of the lanes or of the disk, or that it is of a kind that makes changes.
 enum Asks {
     Length(RopeId),
     Interest(Class, Key),
     Sound(Sound, RopeId),
+    Job(Lane, RopeId, u32, u32),
+    Stop(Lane),
     Change,
 }
 
@@ -39,6 +42,8 @@ fn asked_of(call: &Call) -> Asks
         Call::Lookup(class, key) => Asks::Interest(*class, *key),
         Call::Describe(rope) => Asks::Sound(Sound::Talk, *rope),
         Call::Levels(rope) => Asks::Sound(Sound::Peaks, *rope),
+        Call::Play(lane, rope, start, len) => Asks::Job(*lane, *rope, *start, *len),
+        Call::Stop(lane) => Asks::Stop(*lane),
         _ => Asks::Change,
     }
 }
@@ -169,6 +174,19 @@ impl Inside {
             Asks::Length(rope) => Ok(self.tell_length(disk, caller, rope)),
             Asks::Interest(class, key) => Ok(self.tell_interest(disk, caller, class, key)),
             Asks::Sound(sound, rope) => self.tell_sound(disk, caller, rope, sound),
+            Asks::Job(lane, rope, start, len) => {
+                self.play(
+                    disk,
+                    caller,
+                    Passage {
+                        lane,
+                        rope,
+                        start,
+                        len,
+                    },
+                )
+            }
+            Asks::Stop(lane) => Ok(self.stop(disk, caller, lane)),
             Asks::Change => self.land_and_change(disk, caller, call),
         }
     }

@@ -8,6 +8,7 @@ mod editing;
 mod entering;
 mod hearing;
 mod inside;
+mod jobs;
 mod landing;
 mod opening;
 mod recording;

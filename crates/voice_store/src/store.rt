@@ -103,7 +103,7 @@ impl<D: Disk> Store<D> {
         ensures err { OnErr result (AddsLanding (history_of self.old) (history_of self.new)) }
         // The history stays legal, on a disk that isn't honest but for the talk and peaks that were read off it; and what a crash may leave since an entry is that entry's state or a later one.
         ensures state { (first : State) → Keeps D.told first self.old → Keeps D.told first self.new }
-        // A call that the tables alone answer takes no memory where there is room for its entry and one more.
+        // A call that the tables and the lanes answer, and a Stop, take no memory where there is room for the entry and one more.
         ensures spare { IsTrue (only_tells call) → HasRoomFor 2 self.old → IsOk result }
         // Nor does a Forget or an Advance, where nothing is in doubt and its change fits behind the other records.
         ensures behind { (first : State) → Keeps D.told first self.old → IsTrue (takes_no_memory call) → HasRoomFor 2 self.old → (state_of first self.old).doubt ≡ None → FitsBehindOthers (state_of first self.old) (tapes_in self.old) call → IsOk result }

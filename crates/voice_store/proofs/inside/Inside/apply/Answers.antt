@@ -6,7 +6,7 @@ use Rattle.voice_store.specs.Stood.{last_of, tapes_of}
 use Rattle.voice_store.specs.Facts.{most_reads}
 use Rattle.voice_store.specs.DeviceCalls.{landing_calls, most_calls}
 use Rattle.voice_store.proofs.Behind.{fits_reserved}
-use Rattle.voice_store.proofs.Landed.{stood_reserved, on_error}
+use Rattle.voice_store.proofs.Landed.{stood_reserved, on_error, none_made}
 use Rattle.voice_store.proofs.Heard.{last_reserved, looked_reads, heard_within, few_on_error}
 use Rattle.voice_store.proofs.inside.Inside.apply.Goals as goal
 
@@ -101,3 +101,24 @@ returns-in-Change-clause-behind g c = λ none first t0 stood takes fits room.
     c.land_and_change.ensures.spare (ap (λ (x : Inside). x.doubt) c.reserve.ensures.rest ∙ none) first t0
     (stood_reserved first t0 (g.D.Disk.told c.args.disk.now) s t c.reserve.ensures.rest c.reserve.ensures.items stood) takes
     (fits_reserved first s t c.args.call c.reserve.ensures.rest c.reserve.ensures.items fits)
+
+pub play-requires-clause-stood : goal.play-requires-clause-stood
+play-requires-clause-stood g c κs within =
+    let stood = c.requires.stood in
+    (stood.0, stood.1, stood_reserved stood.0 stood.1 (g.D.Disk.told c.args.disk.now) c.args.self.now c.reserve.new.self c.reserve.ensures.rest c.reserve.ensures.items stood.2)
+
+pub stop-requires-clause-stood : goal.stop-requires-clause-stood
+stop-requires-clause-stood g c κs within =
+    let stood = c.requires.stood in
+    (stood.0, stood.1, stood_reserved stood.0 stood.1 (g.D.Disk.told c.args.disk.now) c.args.self.now c.reserve.new.self c.reserve.ensures.rest c.reserve.ensures.items stood.2)
+
+pub returns-in-Job-clause-few : goal.returns-in-Job-clause-few
+returns-in-Job-clause-few g c = λ first t0 stood. none_made (g.D.Disk.told c.args.disk.now).calls (landing_calls (last_of first c.args.self.now) + most_reads (last_of first c.args.self.now) c.args.call) c.play.result
+
+pub returns-in-Job-clause-stood : goal.returns-in-Job-clause-stood
+returns-in-Job-clause-stood g c = λ first t0 stood.
+    c.play.ensures.stood first t0 (stood_reserved first t0 (g.D.Disk.told c.args.disk.now) c.args.self.now c.reserve.new.self c.reserve.ensures.rest c.reserve.ensures.items stood)
+
+pub returns-in-Stop-clause-stood : goal.returns-in-Stop-clause-stood
+returns-in-Stop-clause-stood g c = λ first t0 stood.
+    c.stop.ensures.stood first t0 (stood_reserved first t0 (g.D.Disk.told c.args.disk.now) c.args.self.now c.reserve.new.self c.reserve.ensures.rest c.reserve.ensures.items stood)
