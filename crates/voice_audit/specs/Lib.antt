@@ -1,0 +1,4 @@
+pub mod Audit
+pub mod Opening
+pub mod Sharing
+pub mod Telling
