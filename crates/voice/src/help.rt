@@ -14,7 +14,7 @@ voice: a voice manager. It runs a script of calls, and prints one line for each.
                      --lanes 8 (the defaults); --held, --until, --listed: of that class
   voice notes INDEX  a census of the keys that the index's notes name as [[voice:KEY]]
   voice import AU FILE, voice export FILE AU: samples out of an AU file, or into one
-  voice --help, voice --version: this, and the version
+  voice audit: what stands on the disk; voice --help, voice --version: this, and the version
 
 The disk is voice.disk there, made and formatted where absent. A script: # comments, calls:
   CALLER [VARIABLE =] record FILE                     CALLER retain CLASS KEY ROPE NOTE

@@ -20,3 +20,4 @@ pub mod Asked
 pub mod Noted
 pub mod Verdicts
 pub mod Counted
+pub mod Standing

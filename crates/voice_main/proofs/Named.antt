@@ -99,3 +99,8 @@ none_other words two three true name is = by is.form
     by : (words ≡ codes "run" ∷ name ∷ codes "--threads" ∷ []) ⊎ (words ≡ codes "run" ∷ codes "--threads" ∷ name ∷ []) → ⊥
     by (inl e) = three (ap length e)
     by (inr e) = three (ap length e)
+
+pub one_item : {X : Type 0} (f : X → List ℕ) (xs : List X) (v : X) → 1 ≤ length xs → length xs < 2 → v ≡ get_or xs 0 v → map f xs ≡ f v ∷ []
+one_item f [] v low high first = absurd (omega arith)
+one_item f (a ∷ []) v low high first = ap (λ x. f x ∷ []) (sym first)
+one_item f (a ∷ b ∷ xs) v low high first = absurd (omega arith)

@@ -7,7 +7,7 @@ use Rattle.voice_model.specs.declared.calls.Entry.{Entry}
 use Rattle.voice_main.specs.declared.options.FormatNumbers.{FormatNumbers}
 use Rattle.voice_main.specs.declared.status.Status.{Status}
 use Rattle.voice_main.specs.declared.status.Status.TheVariants.{Done, Usage, NoMemory}
-use Rattle.voice_main.specs.Words.{Command, Says, run_command, IsSerial, IsThreaded, IsFormat, IsConversion, IsNotes, IsRefused, IsNoRun, IsNoFormat, IsNoConversion, IsNoNotes}
+use Rattle.voice_main.specs.Words.{Command, Says, run_command, IsSerial, IsThreaded, IsFormat, IsConversion, IsNotes, IsAudit, IsRefused, IsNoRun, IsNoFormat, IsNoConversion, IsNoAudit, IsNoNotes}
 use Rattle.voice_main.specs.declared.convert.Way.{Way}
 use Rattle.voice_main.specs.declared.convert.Way.TheVariants as ways
 use Rattle.voice_main.specs.Conversions.{way_word}
@@ -16,6 +16,7 @@ use Rattle.voice_main.specs.RunPromise.{RunPromise}
 use Rattle.voice_main.specs.FormatPromise.{FormatPromise}
 use Rattle.voice_main.specs.ConversionPromise.{ConversionPromise}
 use Rattle.voice_main.specs.NotesPromise.{NotesPromise}
+use Rattle.voice_main.specs.AuditPromise.{AuditPromise}
 use Rattle.voice_main.specs.Promises.{Promises, Comes}
 
 -- `--threads` names no file
@@ -111,12 +112,38 @@ conversion_not_notes words way source target index p q = way_not_notes way (sour
 same_index : (words : List (List ℕ)) (a b : List ℕ) → IsNotes words a → IsNotes words b → a ≡ b
 same_index words a b p q = let e : codes "notes" ∷ a ∷ [] ≡ codes "notes" ∷ b ∷ [] = sym p.form ∙ q.form in cc
 
-pub refused_by : (words : List (List ℕ)) → IsNoRun words → IsNoFormat words → IsNoConversion words → IsNoNotes words → IsRefused words
-refused_by words run format convert notes (Command.Run name) = run false name
-refused_by words run format convert notes (Command.RunThreads name) = run true name
-refused_by words run format convert notes (Command.Format numbers) = format numbers
-refused_by words run format convert notes (Command.Convert way source target) = convert way source target
-refused_by words run format convert notes (Command.Notes index) = notes index
+-- words that ask for an audit
+run_not_audit_from : (rest : List (List ℕ)) → codes "run" ∷ rest ≡ codes "audit" ∷ [] → ⊥
+run_not_audit_from rest e = false≢true (sym (ap (begins (codes "run")) e))
+
+run_not_audit : (threads : Bool) (words : List (List ℕ)) (name : List ℕ) → Says words (run_command threads name) → IsAudit words → ⊥
+run_not_audit false words name r q = run_not_audit_from (name ∷ []) (sym r.form ∙ q)
+run_not_audit true words name r q = by r.form
+  where
+    by : (words ≡ codes "run" ∷ name ∷ codes "--threads" ∷ []) ⊎ (words ≡ codes "run" ∷ codes "--threads" ∷ name ∷ []) → ⊥
+    by (inl e) = run_not_audit_from (name ∷ codes "--threads" ∷ []) (sym e ∙ q)
+    by (inr e) = run_not_audit_from (codes "--threads" ∷ name ∷ []) (sym e ∙ q)
+
+format_not_audit : (words : List (List ℕ)) (numbers : FormatNumbers) → IsFormat words numbers → IsAudit words → ⊥
+format_not_audit words numbers f q = false≢true (sym (ap (begins (codes "format")) (sym f.form ∙ q)))
+
+way_not_audit : (way : Way) (rest : List (List ℕ)) → way_word way ∷ rest ≡ codes "audit" ∷ [] → ⊥
+way_not_audit ways.Import rest e = false≢true (sym (ap (begins (codes "import")) e))
+way_not_audit ways.Export rest e = false≢true (sym (ap (begins (codes "export")) e))
+
+conversion_not_audit : (words : List (List ℕ)) (way : Way) (source target : List ℕ) → IsConversion way words source target → IsAudit words → ⊥
+conversion_not_audit words way source target p q = way_not_audit way (source ∷ target ∷ []) (sym p.form ∙ q)
+
+notes_not_audit : (words : List (List ℕ)) (index : List ℕ) → IsNotes words index → IsAudit words → ⊥
+notes_not_audit words index p q = false≢true (sym (ap (begins (codes "notes")) (sym p.form ∙ q)))
+
+pub refused_by : (words : List (List ℕ)) → IsNoRun words → IsNoFormat words → IsNoConversion words → IsNoAudit words → IsNoNotes words → IsRefused words
+refused_by words run format convert audit notes (Command.Run name) = run false name
+refused_by words run format convert audit notes (Command.RunThreads name) = run true name
+refused_by words run format convert audit notes (Command.Format numbers) = format numbers
+refused_by words run format convert audit notes (Command.Convert way source target) = convert way source target
+refused_by words run format convert audit notes (Command.Notes index) = notes index
+refused_by words run format convert audit notes Command.Audit = audit
 
 -- the promise of the run that the words say is that of whatever command they say
 pub run_only : (threads : Bool) (words : List (List ℕ)) (name : List ℕ) (old new : Outside) (status : Status) (history : List Entry) → Says words (run_command threads name) → RunPromise threads name old new status history → (command : Command) → Says words command → Promises command old new status history
@@ -127,17 +154,19 @@ run_only true words name old new status history p h (Command.RunThreads b) q = s
 run_only threads words name old new status history p h (Command.Format numbers) q = absurd (not_both threads words name numbers p q)
 run_only threads words name old new status history p h (Command.Convert way source target) q = absurd (run_not_conversion threads words name way source target p q)
 run_only threads words name old new status history p h (Command.Notes index) q = absurd (run_not_notes threads words name index p q)
+run_only threads words name old new status history p h Command.Audit q = absurd (run_not_audit threads words name p q)
 
 pub run_comes : (threads : Bool) (words : List (List ℕ)) (name : List ℕ) (old new : Outside) (status : Status) (history : List Entry) → Says words (run_command threads name) → RunPromise threads name old new status history → Comes words old new status history
 run_comes false words name old new status history p h = inr (Command.Run name, p, h)
 run_comes true words name old new status history p h = inr (Command.RunThreads name, p, h)
 
-pub format_only : (words : List (List ℕ)) (old new : Outside) (status : Status) (history : List Entry) → IsNoRun words → IsNoConversion words → IsNoNotes words → ((numbers : FormatNumbers) → IsFormat words numbers → FormatPromise numbers old new status history) → (command : Command) → Says words command → Promises command old new status history
-format_only words old new status history none other notes h (Command.Run b) q = absurd (none false b q)
-format_only words old new status history none other notes h (Command.RunThreads b) q = absurd (none true b q)
-format_only words old new status history none other notes h (Command.Format numbers) q = h numbers q
-format_only words old new status history none other notes h (Command.Convert way source target) q = absurd (other way source target q)
-format_only words old new status history none other notes h (Command.Notes index) q = absurd (notes index q)
+pub format_only : (words : List (List ℕ)) (old new : Outside) (status : Status) (history : List Entry) → IsNoRun words → IsNoConversion words → IsNoAudit words → IsNoNotes words → ((numbers : FormatNumbers) → IsFormat words numbers → FormatPromise numbers old new status history) → (command : Command) → Says words command → Promises command old new status history
+format_only words old new status history none other audit notes h (Command.Run b) q = absurd (none false b q)
+format_only words old new status history none other audit notes h (Command.RunThreads b) q = absurd (none true b q)
+format_only words old new status history none other audit notes h (Command.Format numbers) q = h numbers q
+format_only words old new status history none other audit notes h (Command.Convert way source target) q = absurd (other way source target q)
+format_only words old new status history none other audit notes h (Command.Notes index) q = absurd (notes index q)
+format_only words old new status history none other audit notes h Command.Audit q = absurd (audit q)
 
 pub format_comes : (words : List (List ℕ)) (numbers : FormatNumbers) (old new : Outside) (status : Status) (history : List Entry) → IsFormat words numbers → FormatPromise numbers old new status history → Comes words old new status history
 format_comes words numbers old new status history p h = inr (Command.Format numbers, p, h)
@@ -148,6 +177,7 @@ conversion_only way words source target old new status history p h (Command.Run 
 conversion_only way words source target old new status history p h (Command.RunThreads b) q = absurd (run_not_conversion true words b way source target q p)
 conversion_only way words source target old new status history p h (Command.Format numbers) q = absurd (format_not_conversion words numbers way source target q p)
 conversion_only way words source target old new status history p h (Command.Notes index) q = absurd (conversion_not_notes words way source target index p q)
+conversion_only way words source target old new status history p h Command.Audit q = absurd (conversion_not_audit words way source target p q)
 conversion_only way words source target old new status history p h (Command.Convert other s t) q =
     let same = same_way words way other source target s t p.form q.form in
     let at_way = subst (λ w. ConversionPromise w source target old new status history) same.0 h in
@@ -164,9 +194,22 @@ notes_only words index old new status history p h (Command.RunThreads b) q = abs
 notes_only words index old new status history p h (Command.Format numbers) q = absurd (format_not_notes words numbers index q p)
 notes_only words index old new status history p h (Command.Convert way source target) q = absurd (conversion_not_notes words way source target index q p)
 notes_only words index old new status history p h (Command.Notes b) q = subst (λ n. NotesPromise n old new status history) (same_index words index b p q) h
+notes_only words index old new status history p h Command.Audit q = absurd (notes_not_audit words index p q)
 
 pub notes_comes : (words : List (List ℕ)) (index : List ℕ) (old new : Outside) (status : Status) (history : List Entry) → IsNotes words index → NotesPromise index old new status history → Comes words old new status history
 notes_comes words index old new status history p h = inr (Command.Notes index, p, h)
+
+-- the promise of the audit that the words ask for is that of whatever command they say
+pub audit_only : (words : List (List ℕ)) (old new : Outside) (status : Status) (history : List Entry) → IsAudit words → AuditPromise old new status history → (command : Command) → Says words command → Promises command old new status history
+audit_only words old new status history p h (Command.Run b) q = absurd (run_not_audit false words b q p)
+audit_only words old new status history p h (Command.RunThreads b) q = absurd (run_not_audit true words b q p)
+audit_only words old new status history p h (Command.Format numbers) q = absurd (format_not_audit words numbers q p)
+audit_only words old new status history p h (Command.Convert way source target) q = absurd (conversion_not_audit words way source target q p)
+audit_only words old new status history p h (Command.Notes index) q = absurd (notes_not_audit words index q p)
+audit_only words old new status history p h Command.Audit q = h
+
+pub audit_comes : (words : List (List ℕ)) (old new : Outside) (status : Status) (history : List Entry) → IsAudit words → AuditPromise old new status history → Comes words old new status history
+audit_comes words old new status history p h = inr (Command.Audit, p, h)
 
 aloud : (command : Command) (old new : Outside) (history : List Entry) → Promises command old new Usage history → ⊥
 aloud (Command.Run name) old new history h = h.comes
@@ -174,6 +217,7 @@ aloud (Command.RunThreads name) old new history h = h.comes
 aloud (Command.Format numbers) old new history h = h.comes
 aloud (Command.Convert way source target) old new history h = h.comes
 aloud (Command.Notes index) old new history h = h.comes
+aloud Command.Audit old new history h = h.comes
 
 -- usage comes exactly where the words are refused
 pub usage_of : (words : List (List ℕ)) (old new : Outside) (status : Status) (history : List Entry) → Comes words old new status history → IsRefused words → status ≡ Usage

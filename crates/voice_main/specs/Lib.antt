@@ -10,6 +10,7 @@ pub mod Conversions
 pub mod ConversionPromise
 pub mod Notes
 pub mod NotesPromise
+pub mod AuditPromise
 pub mod Promises
 pub mod Statuses
 pub mod Commands

@@ -11,6 +11,7 @@ use Rattle.voice_main.specs.RunPromise.{RunPromise}
 use Rattle.voice_main.specs.FormatPromise.{FormatPromise}
 use Rattle.voice_main.specs.ConversionPromise.{ConversionPromise}
 use Rattle.voice_main.specs.NotesPromise.{NotesPromise}
+use Rattle.voice_main.specs.AuditPromise.{AuditPromise}
 
 -- the promise of each command
 abbrev pub Promises : Command → Outside → Outside → Status → List Entry → Type 0
@@ -19,6 +20,7 @@ Promises (Command.RunThreads name) = RunPromise true name
 Promises (Command.Format numbers) = FormatPromise numbers
 Promises (Command.Convert way source target) = ConversionPromise way source target
 Promises (Command.Notes index) = NotesPromise index
+Promises Command.Audit = AuditPromise
 
 -- the words are refused, or they say a command, whose promise holds
 abbrev pub Comes : List (List ℕ) → Outside → Outside → Status → List Entry → Type 0

@@ -10,13 +10,14 @@ use Rattle.voice_main.specs.declared.options.Given.{Given}
 use Rattle.voice_main.specs.declared.options.FormatNumbers.{FormatNumbers}
 use Rattle.voice_main.specs.Options.{none_given, Gives, numbers_of}
 
--- what the words may ask for: a run of a script in its order, or of each caller's lines on a thread of its own; a disk formatted; a file made of another; a census of the keys that notes name
+-- what the words may ask for: a run of a script in its order, or of each caller's lines on a thread of its own; a disk formatted; a file made of another; a census of the keys that notes name; an audit of the disk
 pub data Command : Type 0 where
   Run : List ℕ → Command
   RunThreads : List ℕ → Command
   Format : FormatNumbers → Command
   Convert : Way → List ℕ → List ℕ → Command
   Notes : List ℕ → Command
+  Audit : Command
 
 -- the run of a script, on threads or not
 abbrev pub run_command : Bool → List ℕ → Command
@@ -52,12 +53,17 @@ pub record IsNotes (words : List (List ℕ)) (index : List ℕ) : Type 0 where
   pub form : words ≡ codes "notes" ∷ index ∷ []
   pub file : IsTrue (is_file index)
 
+-- they are `audit`
+abbrev pub IsAudit : List (List ℕ) → Type 0
+IsAudit words = words ≡ codes "audit" ∷ []
+
 abbrev pub Says : List (List ℕ) → Command → Type 0
 Says words (Command.Run name) = IsSerial words name
 Says words (Command.RunThreads name) = IsThreaded words name
 Says words (Command.Format numbers) = IsFormat words numbers
 Says words (Command.Convert way source target) = IsConversion way words source target
 Says words (Command.Notes index) = IsNotes words index
+Says words Command.Audit = IsAudit words
 
 -- the words ask for nothing that the program knows
 abbrev pub IsRefused : List (List ℕ) → Type 0
@@ -78,3 +84,7 @@ IsNoConversion words = (way : Way) (source target : List ℕ) → IsConversion w
 -- they ask for no census of notes
 abbrev pub IsNoNotes : List (List ℕ) → Type 0
 IsNoNotes words = (index : List ℕ) → IsNotes words index → ⊥
+
+-- they ask for no audit
+abbrev pub IsNoAudit : List (List ℕ) → Type 0
+IsNoAudit words = IsAudit words → ⊥

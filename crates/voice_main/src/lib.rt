@@ -2,6 +2,7 @@
 #![tactic(auto)]
 
 mod assigned;
+mod audited;
 mod census;
 mod convert;
 mod format;

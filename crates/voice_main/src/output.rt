@@ -45,6 +45,19 @@ fn write_all<O: Sink>(out: &mut O, bytes: &[u8]) -> Result<(), OutsideError>
     Ok(())
 }
 
+/// Prints a text.
+pub fn print_text<O: Sink>(text: &[u8], out: &mut O) -> Status
+    ensures which { Prints (HasRisen (O.faults out.old) (O.faults out.new) ⊎ HasRisen (O.empty_takes out.old) (O.empty_takes out.new)) result }
+    ensures done { result ≡ Status.Done → IfSome (O.contents out.old) (λ had. O.contents out.new ≡ Some (had ++ text.now)) }
+    ensures prefix { IfSome (O.contents out.old) (λ had. (n : ℕ) × (O.contents out.new ≡ Some (had ++ take n text.now))) }
+{
+    match write_all(out, text) {
+        Ok(()) => Status::Done,
+        Err(OutsideError::Failed) => Status::SinkFault,
+        Err(OutsideError::NoMemory) => Status::NoMemory,
+    }
+}
+
 /// Prints a history.
 pub fn print<O: Sink>(alloc: Global, history: &[Entry], out: &mut O) -> Status
     ensures which { Prints (HasRisen (O.faults out.old) (O.faults out.new) ⊎ HasRisen (O.empty_takes out.old) (O.empty_takes out.new)) result }
@@ -54,9 +67,5 @@ pub fn print<O: Sink>(alloc: Global, history: &[Entry], out: &mut O) -> Status
     let Ok(text) = history_text(alloc, history) else {
         return Status::NoMemory;
     };
-    match write_all(out, &text) {
-        Ok(()) => Status::Done,
-        Err(OutsideError::Failed) => Status::SinkFault,
-        Err(OutsideError::NoMemory) => Status::NoMemory,
-    }
+    print_text(&text, out)
 }

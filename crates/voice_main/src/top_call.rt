@@ -7,7 +7,7 @@ ghost use Rattle.voice_outside.specs.Counters.{HasRisen};
 ghost use Rattle.script_lang.specs.Verbs.{is_built_verb};
 ghost use Rattle.script_lang.specs.Whole.{IsWhole};
 ghost use Rattle.voice_store.specs.Facts.{GoesOn};
-ghost use Rattle.voice_main.specs.Words.{Command, Says, IsRefused, IsConversion, IsNoConversion, IsNoNotes};
+ghost use Rattle.voice_main.specs.Words.{Command, Says, IsRefused, IsConversion, IsNoConversion, IsNoAudit, IsNoNotes};
 ghost use Rattle.voice_main.specs.declared.convert.Way.{Way as WayValue};
 ghost use Rattle.voice_main.specs.Outside.{outside, IsUnchanged};
 ghost use Rattle.voice_main.specs.Ran.{IsReady, Performed, Begun, Made};
@@ -16,6 +16,7 @@ ghost use Rattle.voice_main.specs.Promises.{Comes, Promises};
 ghost use Rattle.voice_main.specs.Statuses.{Stops, Opens, Performs, IsEarly, IsSilent, open_status_of, script_status_of};
 
 use crate::assigned::assigned;
+use crate::audited::audited;
 use crate::census::census;
 use crate::convert::convert;
 use crate::format::format;
@@ -25,7 +26,7 @@ use crate::output::print;
 use crate::script_lines::run_lines;
 use crate::status::Status;
 use crate::threads::call_on_threads;
-use crate::words::{conversion_words, notes_words, run_words};
+use crate::words::{conversion_words, is_audit, notes_words, run_words};
 use script_lang::{Script, ScriptError, parse};
 use std::alloc::Global;
 use std::sync::{Arc, Wait};
@@ -246,6 +247,7 @@ fn run_or_format<R: Threads + Wait + Sync, K: Shelf, O: Sink, D: Disk, G: Gate>(
     gate: &G,
 ) -> Ended<D>
     requires conversion { IsNoConversion (map string_bytes words.now) }
+    requires audit { IsNoAudit (map string_bytes words.now) }
     requires notes { IsNoNotes (map string_bytes words.now) }
     // The words are refused, or they say a command, whose promise holds.
     ensures comes { Comes (map string_bytes words.now) (outside (K.files shelf.old) (K.faults shelf.old) (O.contents out.old) (O.faults out.old) (O.empty_takes out.old) (D.told disk)) (outside (K.files shelf.new) (K.faults shelf.new) (O.contents out.new) (O.faults out.new) (O.empty_takes out.new) (D.told result.disk)) result.status result.history.items }
@@ -308,7 +310,8 @@ fn run_notes_or_other<R: Threads + Wait + Sync, K: Shelf, O: Sink, D: Disk, G: G
     disk: D,
     gate: &G,
 ) -> Ended<D>
-    requires { IsNoConversion (map string_bytes words.now) }
+    requires conversion { IsNoConversion (map string_bytes words.now) }
+    requires audit { IsNoAudit (map string_bytes words.now) }
     // The words are refused, or they say a command, whose promise holds.
     ensures comes { Comes (map string_bytes words.now) (outside (K.files shelf.old) (K.faults shelf.old) (O.contents out.old) (O.faults out.old) (O.empty_takes out.old) (D.told disk)) (outside (K.files shelf.new) (K.faults shelf.new) (O.contents out.new) (O.faults out.new) (O.empty_takes out.new) (D.told result.disk)) result.status result.history.items }
     // The promise of whatever command the words say holds.
@@ -331,6 +334,39 @@ fn run_notes_or_other<R: Threads + Wait + Sync, K: Shelf, O: Sink, D: Disk, G: G
     census(alloc, &index, shelf, out, disk, gate)
 }
 
+// Prints an audit, makes a census of what notes name, runs a script or formats the disk, as the words say.
+fn run_audit_or_other<R: Threads + Wait + Sync, K: Shelf, O: Sink, D: Disk, G: Gate>(
+    rt: &R,
+    alloc: Global,
+    words: &[String],
+    shelf: &mut K,
+    out: &mut O,
+    disk: D,
+    gate: &G,
+) -> Ended<D>
+    requires { IsNoConversion (map string_bytes words.now) }
+    // The words are refused, or they say a command, whose promise holds.
+    ensures comes { Comes (map string_bytes words.now) (outside (K.files shelf.old) (K.faults shelf.old) (O.contents out.old) (O.faults out.old) (O.empty_takes out.old) (D.told disk)) (outside (K.files shelf.new) (K.faults shelf.new) (O.contents out.new) (O.faults out.new) (O.empty_takes out.new) (D.told result.disk)) result.status result.history.items }
+    // The promise of whatever command the words say holds.
+    ensures promise { (command : Command) → Says (map string_bytes words.now) command → Promises command (outside (K.files shelf.old) (K.faults shelf.old) (O.contents out.old) (O.faults out.old) (O.empty_takes out.old) (D.told disk)) (outside (K.files shelf.new) (K.faults shelf.new) (O.contents out.new) (O.faults out.new) (O.empty_takes out.new) (D.told result.disk)) result.status result.history.items }
+    // Usage comes exactly where the words are refused.
+    ensures usage { IsRefused (map string_bytes words.now) → result.status ≡ Status.Usage }
+    ensures refused { result.status ≡ Status.Usage → IsRefused (map string_bytes words.now) }
+    // What stands after any status: the front of the text that the sink took, but for an audit, whose promise tells it, and the files.
+    ensures prefix { IsNoAudit (map string_bytes words.now) → IfSome (O.contents out.old) (λ had. (n : ℕ) × (O.contents out.new ≡ Some (had ++ take n (text_of result.history.items)))) }
+    ensures files { K.files shelf.new ≡ K.files shelf.old }
+    // A status that is decided before the first call leaves no history and prints nothing; one that is decided before the disk is touched leaves the disk.
+    ensures silent { IsSilent result.status → (result.history.items ≡ []) × (O.contents out.new ≡ O.contents out.old) }
+    ensures early { IsEarly result.status → result.disk ≡ disk }
+    // The disk keeps its size, and its counts never fall.
+    ensures disk { GoesOn (D.told disk) (D.told result.disk) }
+{
+    if is_audit(words) {
+        return audited(alloc, out, disk);
+    }
+    run_notes_or_other(rt, alloc, words, shelf, out, disk, gate)
+}
+
 /// Does what the words say.
 pub fn run<R: Threads + Wait + Sync, K: Shelf, O: Sink, D: Disk, G: Gate>(
     rt: &R,
@@ -348,8 +384,8 @@ pub fn run<R: Threads + Wait + Sync, K: Shelf, O: Sink, D: Disk, G: Gate>(
     // Usage comes exactly where the words are refused.
     ensures usage { IsRefused (map string_bytes words.now) → result.status ≡ Status.Usage }
     ensures refused { result.status ≡ Status.Usage → IsRefused (map string_bytes words.now) }
-    // What stands after any status: the front of the text that the sink took, and the files, but for a conversion, whose promise says what becomes of them.
-    ensures prefix { IfSome (O.contents out.old) (λ had. (n : ℕ) × (O.contents out.new ≡ Some (had ++ take n (text_of result.history.items)))) }
+    // What stands after any status: the front of the text that the sink took, but for an audit, and the files, but for a conversion; their promises say what becomes of them.
+    ensures prefix { IsNoAudit (map string_bytes words.now) → IfSome (O.contents out.old) (λ had. (n : ℕ) × (O.contents out.new ≡ Some (had ++ take n (text_of result.history.items)))) }
     ensures files { IsNoConversion (map string_bytes words.now) → K.files shelf.new ≡ K.files shelf.old }
     // A status that is decided before the first call leaves no history and prints nothing; one that is decided before the disk is touched leaves the disk.
     ensures silent { IsSilent result.status → (result.history.items ≡ []) × (O.contents out.new ≡ O.contents out.old) }
@@ -360,7 +396,7 @@ pub fn run<R: Threads + Wait + Sync, K: Shelf, O: Sink, D: Disk, G: Gate>(
     ensures disk { GoesOn (D.told disk) (D.told result.disk) }
 {
     let Some(asked) = conversion_words(words) else {
-        return run_notes_or_other(rt, alloc, words, shelf, out, disk, gate);
+        return run_audit_or_other(rt, alloc, words, shelf, out, disk, gate);
     };
     let status = convert(alloc, &asked, shelf);
     Ended {

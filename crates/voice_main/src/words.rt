@@ -3,7 +3,7 @@
 ghost use Rattle.std.specs.Prelude.{ℕ, List, ◌≡◌, [], ◌∷◌, length, MatchOption, map, string_bytes, true, false};
 ghost use Rattle.script_lang.specs.Forms.{is_file};
 ghost use Rattle.voice_main.specs.Conversions.{way_word};
-ghost use Rattle.voice_main.specs.Words.{Says, run_command, IsNoRun, IsConversion, IsNoConversion, IsNotes, IsNoNotes};
+ghost use Rattle.voice_main.specs.Words.{Says, run_command, IsNoRun, IsConversion, IsNoConversion, IsNotes, IsNoNotes, IsAudit, IsNoAudit};
 ghost use Rattle.voice_main.specs.declared.convert.Way.{Way as WayValue};
 
 use crate::convert::{Conversion, Way};
@@ -116,6 +116,17 @@ pub fn notes_words(words: &[String]) -> Option<Name>
         return None;
     };
     notes_of(verb.as_bytes(), index.as_bytes())
+}
+
+/// Whether the words are `audit`.
+pub fn is_audit(words: &[String]) -> bool
+    ensures yes { result ≡ true → IsAudit (map string_bytes words.now) }
+    ensures no { result ≡ false → IsNoAudit (map string_bytes words.now) }
+{
+    let [verb] = words else {
+        return false;
+    };
+    verb.as_bytes() == b"audit".as_slice()
 }
 
 // The way of that word.
