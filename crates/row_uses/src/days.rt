@@ -54,7 +54,7 @@ fn files(alloc: Global, script: &[u8]) -> Result<Files, Fail> {
 }
 
 // The runs of the day, one after another, and what each prints.
-const DAY: [(&[u8], &[u8]); 6] = [
+const DAY: &[(&[u8], &[u8])] = &[
     // The silence is cut out of the message, and the note is put there.
     (
         b"1 a = record msg\n1 describe a\n1 e = sub a 0 0\n1 b = replace a 160000 8000 e\n1 n = record note\n1 c = replace b 160000 0 n\n1 retain held mail.1 c 6869\n1 retain until note.1 n 0000000000001c20\n",
@@ -122,7 +122,7 @@ fn run_part<R: Threads + Wait + Sync + Abort>(
 #[test]
 fn a_day_of_mail(rt: HostRuntime) -> Result<(), Fail> {
     let mut disk = day_disk(&rt, rt.alloc())?;
-    for (script, wanted) in DAY {
+    for &(script, wanted) in DAY {
         disk = run_part(&rt, rt.alloc(), script, disk, wanted)?;
     }
     Ok(())

@@ -8,14 +8,22 @@ use std::sync::Wait;
 use std::test::Fail;
 use std::thread::Threads;
 use voice_disk::{MemDisk, image_of};
-use voice_journal::Journal;
+use voice_journal::{Journal, Placed};
 use voice_main::{Ended, Status, run};
 use voice_model::{Entry, Reply};
 use voice_outside::{Disk, MemShelf, MemSink, OpenGate};
-use voice_units::Name;
+use voice_units::{Name, Shape};
 
 /// The files of a run.
 pub type Files = Vec<(Name, Vec<u8>)>;
+
+fn words_of(alloc: Global, asked: &[&str]) -> Result<Vec<String>, Fail> {
+    let mut words = Vec::new(alloc);
+    for word in asked {
+        words.push(String::from_str(alloc, word)?)?;
+    }
+    Ok(words)
+}
 
 /// Runs these words over files and a disk, and gives how it ended and what was printed.
 pub fn run_words<R: Threads + Wait + Sync>(
@@ -25,10 +33,7 @@ pub fn run_words<R: Threads + Wait + Sync>(
     files: Files,
     disk: MemDisk,
 ) -> Result<(Ended<MemDisk>, Vec<u8>), Fail> {
-    let mut words = Vec::new(alloc);
-    for word in asked {
-        words.push(String::from_str(alloc, word)?)?;
-    }
+    let words = words_of(alloc, asked)?;
     let mut shelf = MemShelf::new(alloc, files, Vec::new(alloc));
     let mut sink = MemSink::new(alloc, Vec::new(alloc));
     let ended = run(rt, alloc, &words, &mut shelf, &mut sink, disk, &OpenGate);
@@ -45,7 +50,7 @@ pub fn put_file(alloc: Global, files: &mut Files, name: &[u8], bytes: &[u8]) -> 
 }
 
 // The letters from A to T, and so many bytes 0x80.
-const FILES: [(&[u8], &[u8]); 4] = [
+const FILES: &[(&[u8], &[u8])] = &[
     (b"f20", b"ABCDEFGHIJKLMNOPQRST"),
     (b"z0", b""),
     (b"z1", b"\x80"),
@@ -56,7 +61,7 @@ const FILES: [(&[u8], &[u8]); 4] = [
 fn files_with(alloc: Global, script: &[u8]) -> Result<Files, Fail> {
     let mut files = Vec::new(alloc);
     put_file(alloc, &mut files, b"s", script)?;
-    for (name, bytes) in FILES {
+    for &(name, bytes) in FILES {
         put_file(alloc, &mut files, name, bytes)?;
     }
     Ok(files)
@@ -85,6 +90,17 @@ pub fn done<R: Threads + Wait + Sync + Abort>(
     Ok((ended.disk, text))
 }
 
+/// Runs a script that is done, and gives the disk then.
+pub fn after<R: Threads + Wait + Sync + Abort>(
+    rt: &R,
+    alloc: Global,
+    script: &[u8],
+    disk: MemDisk,
+) -> Result<MemDisk, Fail> {
+    let (disk, _text) = done(rt, alloc, script, disk)?;
+    Ok(disk)
+}
+
 /// Runs a script that is done and prints just this, and gives the disk then.
 pub fn printed<R: Threads + Wait + Sync + Abort>(
     rt: &R,
@@ -96,6 +112,18 @@ pub fn printed<R: Threads + Wait + Sync + Abort>(
     let (disk, text) = done(rt, alloc, script, disk)?;
     assert_eq!(rt; text.as_slice(), wanted);
     Ok(disk)
+}
+
+/// Asserts that a script is done and prints just this.
+pub fn assert_prints<R: Threads + Wait + Sync + Abort>(
+    rt: &R,
+    alloc: Global,
+    script: &[u8],
+    disk: MemDisk,
+    wanted: &[u8],
+) -> Result<(), Fail> {
+    let _disk = printed(rt, alloc, script, disk, wanted)?;
+    Ok(())
 }
 
 /// A disk of 4,096 bytes of that version: blocks of 8, 16 of them, areas of 512, graces of 60, 4 lanes. The listed calls fail, of which the first three are those of formatting.
@@ -155,15 +183,26 @@ pub struct Standing {
     pub moment: u64,
 }
 
+// The form and the moment that payloads come to.
+fn replayed(alloc: Global, shape: &Shape, payloads: &[Placed]) -> Result<(u8, u64), Fail> {
+    if payloads.len() >= 1 << 31 {
+        return Err(Fail::new("too many payloads"));
+    }
+    match replay(alloc, shape, payloads) {
+        Ok(parts) => Ok((parts.form, parts.moment.0)),
+        Err(e) => Err(Fail::from(e)),
+    }
+}
+
 /// What stands on a disk that opens.
 pub fn standing_on(alloc: Global, disk: &mut MemDisk) -> Result<Standing, Fail> {
     let opened = Journal::open(alloc, disk)?;
-    let parts = replay(alloc, &opened.journal.shape(), &opened.payloads)?;
+    let (form, moment) = replayed(alloc, &opened.journal.shape(), &opened.payloads)?;
     Ok(Standing {
         epoch: opened.journal.epoch(),
         left: opened.journal.left(),
-        form: parts.form,
-        moment: parts.moment.0,
+        form,
+        moment,
     })
 }
 
@@ -202,7 +241,7 @@ pub fn image(alloc: Global, disk: &MemDisk, moment: u64, choice: u16) -> Result<
 }
 
 /// What may stand in place of bytes that aren't settled: what was there, what was written, and two other bytes.
-pub const CHOICES: [u16; 4] = [0, 1, 7, 255];
+pub const CHOICES: &[u16] = &[0, 1, 7, 255];
 
 /// Whether a change that was acknowledged at a moment shows in an image of an earlier one: the call before was its gate's write, and only the byte that this writes opens the gate.
 pub fn shows(ack: u64, moment: u64, choice: u16) -> bool {

@@ -1,15 +1,16 @@
 //! A crash at each moment of a script with a switch in it.
 
-use crate::runs::run_script;
+use crate::runs::done;
 use crate::tables::{
     FILLED, Found, LENGTHS, SCRIPT, TEXT, disk_with, full_disk, has_samples, ropes_on,
 };
 use std::alloc::Global;
+use std::process::Abort;
 use std::sync::Wait;
 use std::test::Fail;
 use std::thread::Threads;
 use voice_disk::{MemDisk, image_of};
-use voice_main::Status;
+use voice_main::Ended;
 use voice_model::{Entry, Reply};
 use voice_outside::Disk;
 
@@ -62,18 +63,39 @@ fn survives<R: Threads + Wait + Sync>(
     Ok(false)
 }
 
-#[test]
-fn each_crash_leaves_what_was_acknowledged(rt: HostRuntime) -> Result<(), Fail> {
-    let disk = full_disk(rt.alloc(), &[])?;
+// Asserts how many calls fill a disk.
+fn filled(rt: &impl Abort, alloc: Global) -> Result<MemDisk, Fail> {
+    let disk = full_disk(alloc, &[])?;
     assert_eq!(rt; disk.calls(), FILLED);
-    let (ended, text) = run_script(&rt, rt.alloc(), SCRIPT, disk)?;
-    assert_eq!(rt; ended.status, Status::Done);
+    Ok(disk)
+}
+
+// The script over such a disk, which is done and prints its text.
+fn ran<R: Threads + Wait + Sync + Abort>(rt: &R, alloc: Global) -> Result<Ended<MemDisk>, Fail> {
+    let disk = filled(rt, alloc)?;
+    let (ended, text) = done(rt, alloc, &["run", "s"], SCRIPT, disk)?;
     assert_eq!(rt; text.as_slice(), TEXT);
-    for moment in FILLED + 1..=ended.disk.calls() {
+    Ok(ended)
+}
+
+// Asserts that each moment of the script survives a crash, with each choice of what isn't settled.
+fn assert_survives<R: Threads + Wait + Sync + Abort>(
+    rt: &R,
+    alloc: Global,
+    disk: &MemDisk,
+    history: &[Entry],
+) -> Result<(), Fail> {
+    for moment in FILLED + 1..=disk.calls() {
         for choice in [0, 1, 7, 255] {
-            let held = survives(&rt, rt.alloc(), &ended.disk, &ended.history, moment, choice)?;
+            let held = survives(rt, alloc, disk, history, moment, choice)?;
             assert!(rt; held, "moment {moment} choice {choice}");
         }
     }
     Ok(())
+}
+
+#[test]
+fn each_crash_leaves_what_was_acknowledged(rt: HostRuntime) -> Result<(), Fail> {
+    let ended = ran(&rt, rt.alloc())?;
+    assert_survives(&rt, rt.alloc(), &ended.disk, &ended.history)
 }

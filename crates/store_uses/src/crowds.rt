@@ -1,15 +1,17 @@
 //! Sixteen callers on threads, and what a crash at any moment leaves of what they made.
 
-use crate::runs::run_words;
+use crate::runs::done;
 use crate::tables::disk_with;
 use disk_uses::steps::fits;
+use rope_table::RopeTable;
 use std::alloc::Global;
+use std::process::Abort;
 use std::sync::{Arc, Wait};
 use std::test::Fail;
 use std::thread::Threads;
 use voice_disk::{MemDisk, image_of};
 use voice_journal::Journal;
-use voice_main::{Ended, Status};
+use voice_main::Ended;
 use voice_model::{Entry, Reply, Tapes};
 use voice_outside::Disk;
 use voice_store::Store;
@@ -85,27 +87,43 @@ fn made_in(alloc: Global, history: &[Entry]) -> Result<Vec<(u64, u64)>, Fail> {
     Ok(made)
 }
 
-fn open_image(
-    alloc: Global,
-    disk: &MemDisk,
-    moment: u64,
-    choice: u16,
-) -> Result<Store<MemDisk>, Fail> {
+// The disk that a crash leaves at a moment.
+fn left_at(alloc: Global, disk: &MemDisk, moment: u64, choice: u16) -> Result<MemDisk, Fail> {
     if moment > disk.calls() {
         return Err(Fail::new("no such moment"));
     }
     let image = image_of(alloc, disk, moment, choice)?;
-    let left = disk_with(alloc, image)?;
-    let Ok(tapes) = Arc::new(alloc, Tapes::new(Vec::new(alloc))) else {
-        return Err(Fail::new("no memory"));
-    };
-    match Store::open(alloc, left, tapes) {
-        Ok(store) => Ok(store),
-        Err(_) => Err(Fail::new("the image is refused")),
-    }
+    disk_with(alloc, image)
 }
 
-// Whether an image of a moment holds the ropes that were acknowledged by then, perhaps one more, each with its length, and nothing else.
+// The rope behind a number, where it is the next one and has this length.
+fn next_rope(ropes: &RopeTable, above: u64, length: u64) -> Option<u64> {
+    let id = ropes.after(above)?;
+    let pieces = ropes.get(id)?;
+    if id.number() != above.saturating_add(1) || u64::from(pieces.length()) != length {
+        return None;
+    }
+    Some(id.number())
+}
+
+// Whether these are the ropes that were acknowledged by a moment, perhaps one more, each with its length, and nothing else.
+fn are_front(ropes: &RopeTable, made: &[(u64, u64)], moment: u64) -> bool {
+    let count = ropes.count() as usize;
+    let least = made.iter().filter(|one| one.1 <= moment).count();
+    if count < least || count > least.saturating_add(1) {
+        return false;
+    }
+    let mut above = 0u64;
+    for (length, _) in made.iter().take(count) {
+        let Some(id) = next_rope(ropes, above, *length) else {
+            return false;
+        };
+        above = id;
+    }
+    ropes.after(above).is_none()
+}
+
+// Whether an image of a moment opens, with such ropes.
 fn survives(
     alloc: Global,
     disk: &MemDisk,
@@ -113,59 +131,59 @@ fn survives(
     moment: u64,
     choice: u16,
 ) -> Result<bool, Fail> {
-    let store = open_image(alloc, disk, moment, choice)?;
-    let ropes = &store.parts().ropes;
-    let count = ropes.count() as usize;
-    let least = made.iter().filter(|one| one.1 <= moment).count();
-    if count < least || count > least.saturating_add(1) {
-        return Ok(false);
-    }
-    let mut above = 0u64;
-    for (k, (length, _)) in made.iter().take(count).enumerate() {
-        let Some(id) = ropes.after(above) else {
-            return Ok(false);
-        };
-        let Some(pieces) = ropes.get(id) else {
-            return Ok(false);
-        };
-        if id.number() != (k as u64).saturating_add(1) || u64::from(pieces.length()) != *length {
-            return Ok(false);
+    let Ok(tapes) = Arc::new(alloc, Tapes::new(Vec::new(alloc))) else {
+        return Err(Fail::new("no memory"));
+    };
+    let left = left_at(alloc, disk, moment, choice)?;
+    match Store::open(alloc, left, tapes) {
+        Ok(store) => {
+            let held = are_front(&store.parts().ropes, made, moment);
+            let _handed_back = store.close();
+            Ok(held)
         }
-        above = id.number();
+        Err(_) => Err(Fail::new("the image is refused")),
     }
-    Ok(ropes.after(above).is_none())
 }
 
 // What sixteen callers made.
-fn crowd<R: Threads + Wait + Sync>(rt: &R, alloc: Global) -> Result<Ended<MemDisk>, Fail> {
+fn crowd<R: Threads + Wait + Sync + Abort>(rt: &R, alloc: Global) -> Result<Ended<MemDisk>, Fail> {
     let script = crowded_script(alloc)?;
     let disk = wide_disk(alloc)?;
-    let (ended, _text) = run_words(
-        rt,
-        alloc,
-        &["run", "s", "--threads"],
-        script.as_slice(),
-        disk,
-    )?;
+    let asked = ["run", "s", "--threads"];
+    let (ended, _text) = done(rt, alloc, &asked, script.as_slice(), disk)?;
     Ok(ended)
 }
 
-#[test]
-fn each_crash_leaves_a_front_of_what_sixteen_callers_made(rt: HostRuntime) -> Result<(), Fail> {
-    let ended = crowd(&rt, rt.alloc())?;
-    assert_eq!(rt; ended.status, Status::Done);
-    assert_eq!(rt; ended.history.len(), 3200);
-    let made = made_in(rt.alloc(), &ended.history)?;
-    assert_eq!(rt; made.len(), 1600);
-    let calls = ended.disk.calls();
+// Asserts that images of fifty moments hold a front of what was made.
+fn assert_fronts(
+    rt: &impl Abort,
+    alloc: Global,
+    disk: &MemDisk,
+    made: &[(u64, u64)],
+) -> Result<(), Fail> {
+    let calls = disk.calls();
     let mut moment = 12u64;
     for k in 0..50u16 {
         moment = moment
             .wrapping_mul(6364136223846793005)
             .wrapping_add(1442695040888963407);
         let at = 10 + (moment >> 16) % calls.saturating_sub(10).max(1);
-        let held = survives(rt.alloc(), &ended.disk, made.as_slice(), at, k % 5)?;
+        let held = survives(alloc, disk, made, at, k % 5)?;
         assert!(rt; held, "moment {at}");
     }
     Ok(())
+}
+
+// Asserts how much the callers made, and what a crash leaves of it.
+fn assert_crowd(rt: &impl Abort, alloc: Global, ended: &Ended<MemDisk>) -> Result<(), Fail> {
+    assert_eq!(rt; ended.history.len(), 3200);
+    let made = made_in(alloc, &ended.history)?;
+    assert_eq!(rt; made.len(), 1600);
+    assert_fronts(rt, alloc, &ended.disk, made.as_slice())
+}
+
+#[test]
+fn each_crash_leaves_a_front_of_what_sixteen_callers_made(rt: HostRuntime) -> Result<(), Fail> {
+    let ended = crowd(&rt, rt.alloc())?;
+    assert_crowd(&rt, rt.alloc(), &ended)
 }

@@ -2,9 +2,11 @@
 
 use crate::runs::{run_gated, small_disk};
 use std::alloc::Global;
+use std::process::Abort;
+use std::sync::Wait;
 use std::sync::atomic::{AtomicBool, AtomicU32, AtomicUsize, Ordering};
 use std::test::Fail;
-use std::thread;
+use std::thread::{self, Threads};
 use voice_main::Status;
 use voice_model::Entry;
 use voice_outside::Gate;
@@ -132,18 +134,61 @@ fn begins_with(history: &[Entry], callers: &[u16]) -> bool {
             .all(|(entry, caller)| entry.caller == *caller)
 }
 
+// Runs the script before a gate, which has to be done, and gives the history.
+fn held<R: Threads + Wait + Sync + Abort>(
+    rt: &R,
+    alloc: Global,
+    asked: &[&str],
+    gate: &Meeting,
+) -> Result<Vec<Entry>, Fail> {
+    let disk = small_disk(alloc, 2, &[])?;
+    let (ended, _text) = run_gated(rt, alloc, asked, SCRIPT, disk, gate)?;
+    assert_eq!(rt; ended.status, Status::Done);
+    Ok(ended.history)
+}
+
+// Asserts just what a gate was told of a caller.
+fn assert_told(
+    rt: &impl Abort,
+    alloc: Global,
+    gate: &Meeting,
+    caller: u32,
+    wanted: &[u32],
+) -> Result<(), Fail> {
+    let told = gate.told_of(alloc, caller)?;
+    assert!(rt; told.as_slice() == wanted);
+    Ok(())
+}
+
+// Asserts that callers on threads who wait for one another end, in time and in order, and what the gate was told of them.
+fn assert_meets<R: Threads + Wait + Sync + Abort>(
+    rt: &R,
+    alloc: Global,
+    gate: &Meeting,
+) -> Result<(), Fail> {
+    let history = held(rt, alloc, &["run", "s", "--threads"], gate)?;
+    assert!(rt; !gate.late.load(Ordering::SeqCst));
+    assert!(rt; begins_with(&history, &[1, 2]));
+    assert_told(rt, alloc, gate, 1, &[112, 212, 113, 213])?;
+    assert_told(rt, alloc, gate, 2, &[121, 221, 124, 224])
+}
+
+// Asserts that one thread is late at a gate.
+fn assert_late<R: Threads + Wait + Sync + Abort>(
+    rt: &R,
+    alloc: Global,
+    gate: &Meeting,
+) -> Result<(), Fail> {
+    let _history = held(rt, alloc, &["run", "s"], gate)?;
+    assert!(rt; gate.late.load(Ordering::SeqCst));
+    Ok(())
+}
+
 #[test]
 fn callers_that_wait_for_one_another_end(rt: HostRuntime) -> Result<(), Fail> {
     for _ in 0..20 {
         let gate = Meeting::new(YIELDS);
-        let disk = small_disk(rt.alloc(), 2, &[])?;
-        let words = ["run", "s", "--threads"];
-        let (ended, _text) = run_gated(&rt, rt.alloc(), &words, SCRIPT, disk, &gate)?;
-        assert_eq!(rt; ended.status, Status::Done);
-        assert!(rt; !gate.late.load(Ordering::SeqCst));
-        assert!(rt; begins_with(&ended.history, &[1, 2]));
-        assert!(rt; gate.told_of(rt.alloc(), 1)?.as_slice() == [112, 212, 113, 213].as_slice());
-        assert!(rt; gate.told_of(rt.alloc(), 2)?.as_slice() == [121, 221, 124, 224].as_slice());
+        assert_meets(&rt, rt.alloc(), &gate)?;
     }
     Ok(())
 }
@@ -151,9 +196,5 @@ fn callers_that_wait_for_one_another_end(rt: HostRuntime) -> Result<(), Fail> {
 #[test]
 fn one_thread_keeps_them_waiting(rt: HostRuntime) -> Result<(), Fail> {
     let gate = Meeting::new(1);
-    let disk = small_disk(rt.alloc(), 2, &[])?;
-    let (ended, _text) = run_gated(&rt, rt.alloc(), &["run", "s"], SCRIPT, disk, &gate)?;
-    assert_eq!(rt; ended.status, Status::Done);
-    assert!(rt; gate.late.load(Ordering::SeqCst));
-    Ok(())
+    assert_late(&rt, rt.alloc(), &gate)
 }

@@ -1,12 +1,14 @@
 //! Scripts over the small disk, and what they print.
 
-use crate::runs::{run_script, small_disk};
+use crate::runs::{assert_prints, ended_so, small_disk};
 use std::alloc::Global;
+use std::process::Abort;
+use std::sync::Wait;
 use std::test::Fail;
-use voice_main::Status;
+use std::thread::Threads;
 
 // Scripts, and what they print over a disk of version 2.
-const ROWS: [(&[u8], &[u8]); 8] = [
+const ROWS: &[(&[u8], &[u8])] = &[
     (b"", b""),
     (
         b"1 a = record f20\n1 length a\n",
@@ -37,11 +39,9 @@ const ROWS: [(&[u8], &[u8]); 8] = [
 
 #[test]
 fn scripts_print_their_replies(rt: HostRuntime) -> Result<(), Fail> {
-    for (script, wanted) in ROWS {
+    for &(script, wanted) in ROWS {
         let disk = small_disk(rt.alloc(), 2, &[])?;
-        let (ended, text) = run_script(&rt, rt.alloc(), script, disk)?;
-        assert_eq!(rt; ended.status, Status::Done);
-        assert_eq!(rt; text.as_slice(), wanted);
+        assert_prints(&rt, rt.alloc(), script, disk, wanted)?;
     }
     Ok(())
 }
@@ -61,8 +61,11 @@ const SUB: &[u8] = b"1 sub a 0 20\n";
 
 const EMPTY: &[u8] = b"1 record z0\n";
 
-// Where the journal gets full: the version, a script, and how what it prints ends.
-const FULL: [(u32, &[u8], &[u8], u32, &[u8]); 4] = [
+// The version, the first line of a script, another one and how often, and how what it prints ends.
+type Full = (u32, &'static [u8], &'static [u8], u32, &'static [u8]);
+
+// Where the journal gets full.
+const FULL: &[Full] = &[
     (
         2,
         RECORD,
@@ -93,14 +96,22 @@ const FULL: [(u32, &[u8], &[u8], u32, &[u8]); 4] = [
     ),
 ];
 
+// Asserts how the text of a row's script ends.
+fn assert_full<R: Threads + Wait + Sync + Abort>(
+    rt: &R,
+    alloc: Global,
+    (version, first, line, times, end): Full,
+) -> Result<(), Fail> {
+    let script = repeated(alloc, first, line, times)?;
+    let disk = small_disk(alloc, version, &[])?;
+    let _disk = ended_so(rt, alloc, &script, disk, (end, u64::from(version)))?;
+    Ok(())
+}
+
 #[test]
 fn a_small_journal_gets_full(rt: HostRuntime) -> Result<(), Fail> {
-    for (version, first, line, times, end) in FULL {
-        let script = repeated(rt.alloc(), first, line, times)?;
-        let disk = small_disk(rt.alloc(), version, &[])?;
-        let (ended, text) = run_script(&rt, rt.alloc(), &script, disk)?;
-        assert_eq!(rt; ended.status, Status::Done);
-        assert!(rt; text.as_slice().ends_with(end), "version {version}");
+    for row in FULL {
+        assert_full(&rt, rt.alloc(), *row)?;
     }
     Ok(())
 }

@@ -2,6 +2,7 @@
 
 use crate::runs::{F20, small_disk};
 use std::alloc::Global;
+use std::process::Abort;
 use std::sync::Arc;
 use std::test::Fail;
 use voice_disk::MemDisk;
@@ -19,18 +20,6 @@ fn one_tape(alloc: Global) -> Result<Arc<Tapes, Global>, Fail> {
     }
 }
 
-// The store of a small disk.
-fn open(alloc: Global, tapes: &Arc<Tapes, Global>) -> Result<Store<MemDisk>, Fail> {
-    let disk = small_disk(alloc, 2, &[])?;
-    let Ok(shared) = Arc::try_clone(tapes) else {
-        return Err(Fail::new("no memory"));
-    };
-    match Store::open(alloc, disk, shared) {
-        Ok(store) => Ok(store),
-        Err(_) => Err(Fail::new("the disk is refused")),
-    }
-}
-
 // The length of a rope, 0 where it is not told. There is room for the entry.
 fn length<D: Disk>(store: &mut Store<D>, rope: RopeId) -> Result<u64, Fail> {
     store.reserve(2)?;
@@ -40,15 +29,32 @@ fn length<D: Disk>(store: &mut Store<D>, rope: RopeId) -> Result<u64, Fail> {
     }
 }
 
-#[test]
-fn a_new_store_is_empty(rt: HostRuntime) -> Result<(), Fail> {
-    let tapes = one_tape(rt.alloc())?;
-    let mut store = open(rt.alloc(), &tapes)?;
-    assert_eq!(rt; length(&mut store, RopeId(1))?, 0);
+// Asserts that there is no rope, and how many blocks are free and there, and how many lanes.
+fn assert_empty(rt: &impl Abort, store: &mut Store<MemDisk>) -> Result<(), Fail> {
+    let found = length(store, RopeId(1))?;
+    assert_eq!(rt; found, 0);
     let sizes = (store.free(), store.shape().blocks, store.lanes());
     assert_eq!(rt; sizes, (16, 16, 4));
     assert_eq!(rt; store.parts().ropes.count(), 0);
-    let (_disk, history) = store.close();
-    assert_eq!(rt; history.len(), 1);
     Ok(())
+}
+
+// Asserts how many entries a store hands back.
+fn assert_closes(rt: &impl Abort, store: Store<MemDisk>, wanted: usize) {
+    let (_disk, history) = store.close();
+    assert_eq!(rt; history.len(), wanted);
+}
+
+#[test]
+fn a_new_store_is_empty(rt: HostRuntime) -> Result<(), Fail> {
+    let tapes = one_tape(rt.alloc())?;
+    let disk = small_disk(rt.alloc(), 2, &[])?;
+    match Store::open(rt.alloc(), disk, tapes) {
+        Ok(mut store) => {
+            let looked = assert_empty(&rt, &mut store);
+            assert_closes(&rt, store, 1);
+            looked
+        }
+        Err(_) => Err(Fail::new("the disk is refused")),
+    }
 }
