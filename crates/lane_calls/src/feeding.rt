@@ -68,6 +68,7 @@ fn tell<L: Ledger>(
     ensures spare_pairs { parts.old.ropes.spare_pairs ≤ parts.new.ropes.spare_pairs }
     ensures uses { (q : BlockPair) → uses_at parts.new.ropes q ≤ uses_at parts.old.ropes q }
     ensures interests { parts.new.interests ≡ parts.old.interests }
+    ensures pool { lanes.new.frames.keeper.pool ≡ lanes.old.frames.keeper.pool }
     ensures addresses { KeepsAddresses parts.old.blocks.holders parts.new.blocks.holders }
     ensures bytes { (bytes : ℕ → ℕ → List ℕ) → HoldsBytes bytes lanes.old.frames → HoldsBytes bytes lanes.new.frames }
 {
@@ -113,6 +114,7 @@ pub fn feed<D: Disk, L: Ledger>(
     ensures spare_pairs { parts.old.ropes.spare_pairs ≤ parts.new.ropes.spare_pairs }
     ensures uses { (q : BlockPair) → uses_at parts.new.ropes q ≤ uses_at parts.old.ropes q }
     ensures interests { parts.new.interests ≡ parts.old.interests }
+    ensures pool { lanes.new.frames.keeper.pool ≡ lanes.old.frames.keeper.pool }
     ensures addresses { KeepsAddresses parts.old.blocks.holders parts.new.blocks.holders }
 {
     if let Some(why) = refused(lanes, shape, lane, false) {
@@ -157,6 +159,7 @@ pub fn serve<D: Disk, L: Ledger>(
     ensures spare_pairs { parts.old.ropes.spare_pairs ≤ parts.new.ropes.spare_pairs }
     ensures uses { (q : BlockPair) → uses_at parts.new.ropes q ≤ uses_at parts.old.ropes q }
     ensures interests { parts.new.interests ≡ parts.old.interests }
+    ensures pool { lanes.new.frames.keeper.pool ≡ lanes.old.frames.keeper.pool }
     ensures addresses { KeepsAddresses parts.old.blocks.holders parts.new.blocks.holders }
 {
     if let Some(why) = refused(lanes, shape, lane, true) {

@@ -40,6 +40,7 @@ pub fn stop<L: Ledger>(
     ensures addresses { KeepsAddresses parts.old.blocks.holders parts.new.blocks.holders }
     ensures uses { (q : BlockPair) → uses_at parts.new.ropes q ≤ uses_at parts.old.ropes q }
     ensures interests { parts.new.interests ≡ parts.old.interests }
+    ensures pool { lanes.new.frames.keeper.pool ≡ lanes.old.frames.keeper.pool }
     ensures moment { parts.new.moment ≡ parts.old.moment }
     ensures next { parts.new.next ≡ parts.old.next }
     ensures form { parts.new.form ≡ parts.old.form }

@@ -11,7 +11,7 @@ use Rattle.voice_model.specs.Early.{all_but_last}
 use Rattle.voice_model.specs.Changes.{effect_of, base_size, changed}
 use Rattle.voice_model.specs.Step.{refusal, conditions, first_of, reply_of, is_journal_full, journal_full, if_full, when}
 use Rattle.voice_model.specs.Valid.{InRange, TakesFree}
-use Rattle.voice_model.specs.Replay.{Rebuilt, acted, durable_by, recovered}
+use Rattle.voice_model.specs.Replay.{Rebuilt, acted, durable_by}
 use Rattle.voice_model.specs.Base.{change_of}
 use Rattle.voice_model.specs.declared.calls.Call.{Call}
 use Rattle.voice_model.specs.declared.calls.Reply.{Reply}

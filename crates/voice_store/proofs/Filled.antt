@@ -1,6 +1,6 @@
 -- The bytes of the blocks that have an address, as the disk and the tables change.
-use Rattle.std.proofs.Common.{◌≡◌, ◌⊎◌, inl, inr, ⊎_elim, ℕ, zero, suc, ◌+◌, ◌*◌, ◌/◌, ◌%◌, ◌<◌, ◌≤◌, ◌==◌, Bool, true, false, ◌||◌, cond, List, [], ◌∷◌, ◌++◌, append-nil, append_assoc, length, Option, Some, None, refl, sym, ◌∙◌, ap, subst, arith, eq-eqb}
-use Rattle.std.specs.Prelude.{slice_index, nat_lt}
+use Rattle.std.proofs.Common.{◌≡◌, ◌⊎◌, ⊎_elim, ℕ, zero, suc, ◌+◌, ◌*◌, ◌%◌, ◌<◌, ◌≤◌, ◌==◌, Bool, true, false, cond, List, [], ◌∷◌, ◌++◌, append-nil, append_assoc, length, Some, None, refl, sym, ◌∙◌, ap, subst, arith}
+use Rattle.std.specs.Prelude.{slice_index}
 use Rattle.std.proofs.lemmas.Bool.{ltb-true, eqb-true}
 use Rattle.std.proofs.lemmas.List.Folds.{list_any-append}
 use Rattle.std.proofs.lemmas.Nat.{div-mul-add, mod-mul-add}
@@ -22,7 +22,6 @@ use Rattle.voice_model.proofs.PlacesKept.{used_placed, same_itself}
 use Rattle.voice_model.specs.Places.{Pairwise, OfOtherBlock}
 use Rattle.voice_model.specs.Valid.{Every}
 use Rattle.recovery.specs.Shown.{placed_at, ShowsPlaces}
-use Rattle.recovery.proofs.Ropes.{not_equal}
 use Rattle.checkpoint.specs.Blocks.{IsHeld}
 use Rattle.rope_table.specs.Table.{pair_of, pairs_in}
 use Rattle.recovery.specs.declared.parts.Parts.{Parts}
@@ -32,10 +31,9 @@ use Rattle.running_tables.proofs.Recounted.{one_has}
 use Rattle.running_tables.proofs.Steps.{file_below}
 use Rattle.running_tables.proofs.Taken.{first_blocks, none_yet}
 use Rattle.fillings.specs.Laws.{HasBytes}
-use Rattle.recording_writer.specs.Wrote.{LiesOutside, SameOutside, byte_place}
+use Rattle.recording_writer.specs.Wrote.{SameOutside, byte_place}
 use Rattle.next_ropes.specs.Addresses.{KeepsAddresses, HandsOut}
 use Rattle.voice_store.specs.Filled.{IsFilled, IsPadded}
-use Rattle.voice_store.proofs.Refused.{wrong}
 use Rattle.voice_store.proofs.Spared.{outside_of}
 use Rattle.voice_store.proofs.Taking.{later_fill, later_other, later_here}
 

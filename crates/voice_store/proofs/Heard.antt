@@ -1,8 +1,7 @@
 -- What a rope sounds like on the disk.
 use Rattle.voice_store.proofs.Filled.{stays_same}
-use Rattle.std.proofs.Common.{◌≡◌, ◌⊎◌, inl, inr, ℕ, ◌+◌, ◌≤◌, ◌<◌, ◌^◌, ◌==◌, Bool, true, false, ◌||◌, cond, List, [], ◌∷◌, ◌++◌, map, length, Option, Some, None, IsTrue, refl, sym, ◌∙◌, ap, subst, arith}
-use Rattle.std.proofs.lemmas.Bool.{eqb-true, eq-eqb, lt-ltb}
-use Rattle.std.proofs.lemmas.List.{append-nil, length-map}
+use Rattle.std.proofs.Common.{◌≡◌, ◌⊎◌, inl, inr, ℕ, ◌+◌, ◌≤◌, ◌^◌, ◌==◌, Bool, true, false, ◌||◌, cond, List, [], ◌∷◌, map, length, Some, None, IsTrue, refl, sym, ◌∙◌, ap, subst, arith}
+use Rattle.std.proofs.lemmas.Bool.{lt-ltb}
 use Rattle.std.specs.Prelude.{nat_lt, Result, Ok, Err, OnErr}
 use Rattle.voice_units.specs.declared.pieces.Piece.{Piece}
 use Rattle.voice_units.specs.declared.shapes.Shape.{Shape}
@@ -16,7 +15,7 @@ use Rattle.voice_model.specs.Samples.{Tagged, bytes_of, spot_of, spots_in_rope}
 use Rattle.voice_model.specs.Heard.{unheard, IsReplyOn}
 use Rattle.voice_model.specs.State.{State, Live, Durable, rope_at, samples_of, samples_or_none, first_unknown}
 use Rattle.voice_model.specs.Step.{Outcome, outcome_of, refusal, reply_of, reply_by, first_of, if_unknown, reaches_device, IsAtDevice, IsReply, after, after_answer, after_reply, state_by, state_after, nothing_to_land}
-use Rattle.voice_model.specs.Replay.{Placed, Rebuilt, has_place, has_address, address_of, filled, live_by, durable_by, recovered}
+use Rattle.voice_model.specs.Replay.{Placed, Rebuilt, has_place, address_of, filled, live_by, durable_by}
 use Rattle.voice_model.specs.Places.{IsPlace, IsPlaced}
 use Rattle.voice_model.specs.Valid.{Every, IsRope}
 use Rattle.voice_model.specs.declared.calls.Call.{Call}
@@ -31,7 +30,6 @@ use Rattle.checkpoint.specs.Blocks.{IsHeld as IsAt}
 use Rattle.next_changes.proofs.Given.{given}
 use Rattle.fillings.proofs.Counting.{or_cases}
 use Rattle.rope_table.specs.Table.{pieces_at}
-use Rattle.edits.specs.Tables.{pieces_here}
 use Rattle.edits.proofs.Seen.{spots_shown, rope_length, its_pieces, missing_shown, a_rope, no_rope}
 use Rattle.crash_laws.specs.Foundations.{Foundations}
 use Rattle.crash_laws.specs.Standing.{IsHonest, IsLater}

@@ -7,6 +7,7 @@ pub mod Counted
 pub mod Entries
 pub mod Faults
 pub mod Fewer
+pub mod Served
 pub mod FirstStates
 pub mod Going
 pub mod Histories
@@ -32,5 +33,6 @@ pub mod Switched
 pub mod Taking
 pub mod Tried
 pub mod Turned
+pub mod Windowed
 pub mod Written
 pub mod Heard

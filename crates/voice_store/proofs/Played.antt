@@ -1,18 +1,18 @@
 -- The lanes of a store, as its tables, its bytes and its state change.
-use Rattle.std.proofs.Common.{◌≡◌, ℕ, zero, suc, ◌+◌, ◌*◌, ◌<◌, ◌≤◌, ◌⊎◌, inl, inr, ⊎_elim, Bool, List, [], ◌∷◌, map, length, replicate, Option, Some, None, IsTrue, refl, sym, ◌∙◌, ap, subst, arith}
+use Rattle.std.proofs.Common.{◌≡◌, ℕ, zero, suc, ◌+◌, ◌*◌, ◌<◌, ◌≤◌, ◌⊎◌, inl, inr, ⊎_elim, Bool, List, [], ◌∷◌, map, length, replicate, Option, Some, None, refl, sym, ◌∙◌, ap, subst, arith}
 use Rattle.std.specs.Prelude.{slice_index_or}
 use Rattle.std.proofs.lemmas.List.{length-replicate}
 use Rattle.voice_units.specs.declared.pieces.Piece.{Piece}
 use Rattle.voice_units.specs.declared.shapes.Shape.{Shape}
 use Rattle.voice_units.specs.Spots.{Spot, spots_of, spots_from}
-use Rattle.voice_units.specs.Blocks.{BlockPair, has_pair}
+use Rattle.voice_units.specs.Blocks.{BlockPair}
 use Rattle.voice_model.specs.Samples.{Tagged, spot_of}
 use Rattle.voice_model.specs.State.{State, Durable, LaneState, Effect, Pending, quiet_lane, lane_at}
 use Rattle.voice_model.specs.State as model
 use Rattle.voice_model.specs.State.Effect.{Recorded, Edited, Retained, Forgotten, Counted, Swept, Advanced}
 use Rattle.voice_model.specs.Changes.{changed, committed}
 use Rattle.voice_model.specs.Step.{after_landing, landed}
-use Rattle.voice_model.specs.Replay.{Rebuilt, used_pairs}
+use Rattle.voice_model.specs.Replay.{Rebuilt}
 use Rattle.voice_model.specs.Valid.{Every, IsFit, IsState, IsPending}
 use Rattle.voice_model.proofs.KeptByChanges.{every-imply}
 use Rattle.voice_model.proofs.FitsOfCalls.{every_at}
@@ -24,13 +24,13 @@ use Rattle.recovery.specs.Shown.{Shows}
 use Rattle.running_tables.specs.Running.{Runs}
 use Rattle.running_tables.proofs.Recounted.{once_used, one_has}
 use Rattle.running_tables.proofs.Steps.{file_below}
-use Rattle.frame_pool.specs.Pool.{KeeperState, block_of, frame_of}
+use Rattle.frame_pool.specs.Pool.{KeeperState, block_of}
 use Rattle.play_queue.specs.declared.jobs.Job.{Job}
 use Rattle.play_queue.specs.Queued.{lane_of}
 use Rattle.playing.specs.declared.blocks.Block.{Block}
-use Rattle.playing.specs.Frames.{FramesState, AreUsed, HoldsBytes, resident_at, uses_of}
+use Rattle.playing.specs.Frames.{HoldsBytes, resident_at}
 use Rattle.playing.specs.Lanes.{LanesState}
-use Rattle.playing.specs.Shown.{ShowsLane, shown_job}
+use Rattle.playing.specs.Shown.{shown_job}
 use Rattle.lane_calls.specs.Lanes.{ShowsLanes}
 use Rattle.lane_calls.specs.Answers.{HaveForgotten}
 use Rattle.lane_calls.proofs.Counting.{uses_live}

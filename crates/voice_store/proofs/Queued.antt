@@ -1,18 +1,17 @@
 -- A call of lanes that nothing refuses: a Play and a Stop in the store.
-use Rattle.std.proofs.Common.{◌≡◌, ◌⊎◌, inl, inr, ℕ, zero, suc, ◌+◌, ◌<◌, ◌≤◌, ◌^◌, Bool, false, not, ◌||◌, List, [], ◌∷◌, ◌++◌, map, length, Option, Some, None, IsTrue, refl, sym, ◌∙◌, ap, subst, arith}
-use Rattle.std.specs.Prelude.{is_none, is_some, slice_set}
+use Rattle.std.proofs.Common.{◌≡◌, inl, inr, ℕ, zero, suc, ◌+◌, ◌<◌, ◌≤◌, ◌^◌, false, not, ◌||◌, List, [], ◌∷◌, ◌++◌, map, length, Option, None, IsTrue, refl, sym, ◌∙◌, ap, subst, arith}
+use Rattle.std.specs.Prelude.{is_none, slice_set}
 use Rattle.voice_units.specs.declared.pieces.Piece.{Piece}
 use Rattle.voice_units.specs.Blocks.{BlockPair}
 use Rattle.voice_outside.specs.Disk.{Told}
 use Rattle.voice_model.specs.Samples.{Tagged}
 use Rattle.voice_model.specs.State.{State, LaneState, Job, Effect, quiet_lane, lane_at, with_lane}
 use Rattle.voice_model.specs.Changes.{effect_of, is_changing}
-use Rattle.voice_model.specs.Step.{refusal, reply_of, on_lanes, with_jobs, with_change, stopped_job, state_after, nothing_to_land, IsReply}
+use Rattle.voice_model.specs.Step.{on_lanes, with_jobs, with_change, stopped_job, state_after, nothing_to_land, IsReply}
 use Rattle.voice_model.specs.Valid.{Every, InRange, IsState}
 use Rattle.voice_model.specs.declared.calls.Call.{Call}
 use Rattle.voice_model.specs.declared.calls.Call.TheVariants as calls
 use Rattle.voice_model.specs.declared.calls.Reply.{Reply}
-use Rattle.voice_model.specs.declared.calls.Reply.TheVariants as replies
 use Rattle.voice_model.specs.declared.calls.Entry.{Entry}
 use Rattle.voice_model.proofs.Heard.{answer_on}
 use Rattle.voice_model.proofs.StatesKept.{state_kept}
@@ -33,14 +32,13 @@ use Rattle.lane_calls.proofs.HeldAgain as again
 use Rattle.next_ropes.specs.Addresses.{KeepsAddresses}
 use Rattle.next_ropes.specs.Ready.{most_held}
 use Rattle.next_ropes.proofs.Readied.{uses_fit}
-use Rattle.next_changes.proofs.Given.{given}
 use Rattle.crash_laws.specs.Standing.{IsHonest}
 use Rattle.crash_laws.specs.Laws.{EntriesCount}
 use Rattle.built_calls.specs.Built.{is_built}
 use Rattle.voice_store.specs.declared.inside.Inside.{Inside}
 use Rattle.voice_store.specs.Facts.{entry_of}
 use Rattle.voice_store.specs.Playing.{bytes_by, PassagesBelow, NoneRecords}
-use Rattle.voice_store.specs.Stood.{tapes_of, last_of, IsSure, IsUnsure, Stood}
+use Rattle.voice_store.specs.Stood.{tapes_of, last_of, Stood}
 use Rattle.voice_store.proofs.Again.{of_slice}
 use Rattle.voice_store.proofs.Filled.{same_addresses}
 use Rattle.voice_store.proofs.Refused.{may_answer, after_answered}
@@ -54,19 +52,19 @@ every_set P [] n x h k = tt
 every_set P (y ∷ xs) zero x h k = (k, h.1)
 every_set P (y ∷ xs) (suc n) x h k = (h.0, every_set P xs n x h.1 k)
 
-abbrev JobsBelow : ℕ → List Job → Type 0
+abbrev pub JobsBelow : ℕ → List Job → Type 0
 JobsBelow next jobs = Every (λ job. Every (λ sample. sample.file < next) job.passage) jobs
 
-below_at : (next : ℕ) (s : State) (lane : ℕ) → PassagesBelow next s.lanes → JobsBelow next (lane_at s lane).jobs
+pub below_at : (next : ℕ) (s : State) (lane : ℕ) → PassagesBelow next s.lanes → JobsBelow next (lane_at s lane).jobs
 below_at next s lane below = every_at (λ (l : LaneState). JobsBelow next l.jobs) s.lanes lane quiet_lane tt below
 
-below_set : (next : ℕ) (s : State) (lane : ℕ) (jobs : List Job) → PassagesBelow next s.lanes → JobsBelow next jobs → PassagesBelow next (with_lane s lane (with_jobs (lane_at s lane) jobs)).lanes
+pub below_set : (next : ℕ) (s : State) (lane : ℕ) (jobs : List Job) → PassagesBelow next s.lanes → JobsBelow next jobs → PassagesBelow next (with_lane s lane (with_jobs (lane_at s lane) jobs)).lanes
 below_set next s lane jobs below mine = every_set (λ (l : LaneState). JobsBelow next l.jobs) s.lanes lane (with_jobs (lane_at s lane) jobs) below mine
 
 pub unrecorded_at : (s : State) (lane : ℕ) → NoneRecords s.lanes → (lane_at s lane).taking ≡ None
 unrecorded_at s lane none = every_at (λ (l : LaneState). l.taking ≡ None) s.lanes lane quiet_lane refl none
 
-unrecorded_set : (s : State) (lane : ℕ) (jobs : List Job) → NoneRecords s.lanes → NoneRecords (with_lane s lane (with_jobs (lane_at s lane) jobs)).lanes
+pub unrecorded_set : (s : State) (lane : ℕ) (jobs : List Job) → NoneRecords s.lanes → NoneRecords (with_lane s lane (with_jobs (lane_at s lane) jobs)).lanes
 unrecorded_set s lane jobs none = every_set (λ (l : LaneState). l.taking ≡ None) s.lanes lane (with_jobs (lane_at s lane) jobs) none (unrecorded_at s lane none)
 
 stopped_below : (next : ℕ) (jobs : List Job) → JobsBelow next jobs → JobsBelow next (map stopped_job jobs)

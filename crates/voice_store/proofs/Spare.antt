@@ -1,5 +1,5 @@
 -- What the tables of a store tell of its state: the free blocks, whether a change is in doubt or not, and all else where none is.
-use Rattle.std.proofs.Common.{◌≡◌, ◌⊎◌, inl, inr, ℕ, ◌==◌, Bool, true, false, cond, List, [], ◌∷◌, ◌++◌, map, length, Option, Some, None, refl, sym, ◌∙◌, ap, subst}
+use Rattle.std.proofs.Common.{◌≡◌, ◌⊎◌, inl, inr, ℕ, ◌==◌, Bool, true, false, cond, List, [], ◌∷◌, ◌++◌, map, length, None, refl, sym, ◌∙◌, ap, subst}
 use Rattle.std.proofs.lemmas.List.{map-append}
 use Rattle.voice_units.specs.declared.shapes.Shape.{Shape}
 use Rattle.voice_units.specs.declared.pieces.Piece.{Piece}
@@ -12,12 +12,11 @@ use Rattle.voice_model.specs.State.Effect.{Recorded, Edited, Retained, Forgotten
 use Rattle.voice_model.specs.Room.{free, held_by_doubt, samples_brought}
 use Rattle.voice_model.specs.Changes.{changed, with_rope}
 use Rattle.voice_model.specs.Base.{change_of}
-use Rattle.voice_model.specs.Replay.{Rebuilt, acted, durable_by, live_by}
-use Rattle.voice_model.specs.declared.changes.Change.{Change}
+use Rattle.voice_model.specs.Replay.{durable_by, live_by}
 use Rattle.voice_model.specs.declared.changes.Change.TheVariants as kinds
 use Rattle.voice_blocks.specs.Holders.{Holders, open_in}
 use Rattle.rope_table.specs.Table.{pairs_in}
-use Rattle.running_tables.specs.Running.{Runs, RunsState, held_in, takings_in, pledged_in, passages_of, takings_of}
+use Rattle.running_tables.specs.Running.{Runs, RunsState, held_in, takings_in, pledged_in}
 use Rattle.running_tables.proofs.Free.{counts_free}
 use Rattle.running_tables.proofs.Dropped.{repledged}
 use Rattle.next_ropes.specs.declared.NextRope.{NextRope}
@@ -29,7 +28,7 @@ use Rattle.next_changes.specs.declared.NextChange.TheVariants.{Rope, Other}
 use Rattle.next_changes.proofs.Given.{brings_rope, plain}
 use Rattle.ready_changes.specs.declared.ReadyChange.{ReadyChange}
 use Rattle.voice_store.specs.declared.inside.Inside.{Inside}
-use Rattle.voice_store.specs.Stood.{last_of, IsSure, IsUnsure, IsHolding, Brings, ShowsState, Stood}
+use Rattle.voice_store.specs.Stood.{last_of, IsSure, IsUnsure, IsHolding, ShowsState, Stood}
 use Rattle.voice_store.proofs.Refused.{spots_again}
 use Rattle.voice_store.proofs.Settled.{none_some}
 

@@ -1,5 +1,5 @@
 -- A change in doubt stays ready as passages are held and let go.
-use Rattle.std.proofs.Common.{◌≡◌, ◌⊎◌, inl, inr, ⊎_elim, ℕ, ◌+◌, ◌<◌, ◌≤◌, ◌^◌, ◌==◌, Bool, true, false, ◌||◌, cond, nat_lt, List, [], ◌∷◌, ◌++◌, append-nil, length, Some, refl, sym, ◌∙◌, ap, subst, arith, eq-eqb}
+use Rattle.std.proofs.Common.{◌≡◌, ◌⊎◌, inl, inr, ⊎_elim, ℕ, ◌+◌, ◌<◌, ◌≤◌, ◌^◌, ◌==◌, Bool, true, false, cond, List, [], ◌∷◌, ◌++◌, append-nil, length, Some, refl, sym, ◌∙◌, ap, subst, arith, eq-eqb}
 use Rattle.std.specs.Prelude.{nat_le}
 use Rattle.std.specs.List.{list_all}
 use Rattle.std.proofs.lemmas.Bool.{lt-ltb, eqb-true}
@@ -11,26 +11,25 @@ use Rattle.voice_model.specs.Replay.{Placed, Rebuilt, is_legal, used_pairs, new_
 use Rattle.voice_model.specs.Valid.{Every}
 use Rattle.voice_model.specs.declared.changes.Change.{Change}
 use Rattle.voice_model.specs.declared.changes.Change.TheVariants as changes
-use Rattle.voice_blocks.specs.Holders.{Holders, holder_at, block_of}
+use Rattle.voice_blocks.specs.Holders.{holder_at, block_of}
 use Rattle.voice_blocks.specs.declared.owner.Owner.TheVariants.{File}
 use Rattle.checkpoint.specs.Blocks.{IsHeld}
-use Rattle.rope_table.specs.Table.{uses_at, uses_in, pieces_in, pairs_in, pair_of, new_pairs, unused}
+use Rattle.rope_table.specs.Table.{uses_at, pairs_in, pair_of, new_pairs, unused}
 use Rattle.recovery.specs.declared.parts.Parts.{Parts}
 use Rattle.recovery.proofs.Rebuilding.{filter_all}
 use Rattle.running_tables.specs.Running.{Runs}
-use Rattle.running_tables.specs.Laws.{HaveBlocks, HasFirst}
-use Rattle.running_tables.proofs.Codes.{or_left, or_right, has_append}
+use Rattle.running_tables.specs.Laws.{HasFirst}
+use Rattle.running_tables.proofs.Codes.{or_right}
 use Rattle.running_tables.proofs.Recounted.{all_have}
 use Rattle.running_tables.proofs.Taken.{first_blocks}
 use Rattle.lane_calls.specs.Lanes.{ArePledged}
-use Rattle.lane_calls.proofs.Counting.{live_uses}
 use Rattle.lane_calls.proofs.LetGo.{has_both}
 use Rattle.ready_changes.specs.Ready.{Does}
 use Rattle.next_ropes.specs.Addresses.{KeepsAddresses}
 use Rattle.next_ropes.specs.Ready.{IsReady, new_samples}
 use Rattle.next_ropes.specs.declared.NextRope.{NextRope}
 use Rattle.next_ropes.proofs.Performed.{none_new}
-use Rattle.next_changes.specs.Next.{IsNext, IsOther, pledges}
+use Rattle.next_changes.specs.Next.{IsNext, pledges}
 use Rattle.next_changes.specs.declared.NextChange.{NextChange}
 use Rattle.next_changes.specs.declared.NextChange.TheVariants.{Rope, Other}
 use Rattle.voice_store.proofs.Kept.{each_had}

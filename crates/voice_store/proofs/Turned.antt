@@ -1,5 +1,5 @@
 -- A call that changes what the lanes hold, and nothing that outlives a crash.
-use Rattle.std.proofs.Common.{◌≡◌, ◌⊎◌, inl, inr, ℕ, ◌+◌, ◌<◌, ◌≤◌, ◌^◌, Bool, true, List, [], ◌∷◌, ◌++◌, length, map, replicate, Option, Some, None, IsTrue, is_some, refl, sym, ◌∙◌, ap, subst, arith}
+use Rattle.std.proofs.Common.{◌≡◌, ◌⊎◌, inl, inr, ℕ, ◌+◌, ◌<◌, ◌≤◌, ◌^◌, Bool, List, [], ◌∷◌, ◌++◌, length, replicate, Option, Some, None, IsTrue, is_some, refl, sym, ◌∙◌, ap, subst, arith}
 use Rattle.voice_units.specs.declared.pieces.Piece.{Piece}
 use Rattle.voice_units.specs.declared.shapes.Shape.{Shape}
 use Rattle.voice_units.specs.Spots.{Spot}
@@ -25,13 +25,12 @@ use Rattle.playing.specs.Held.{held_by}
 use Rattle.lane_calls.specs.Lanes.{Stands, ArePledged}
 use Rattle.lane_calls.proofs.HeldAgain.{passages_held}
 use Rattle.next_ropes.specs.Addresses.{KeepsAddresses}
-use Rattle.next_changes.specs.Next.{IsNext, pledges}
+use Rattle.next_changes.specs.Next.{pledges}
 use Rattle.next_changes.proofs.Given.{given}
 use Rattle.crash_laws.specs.Standing.{IsHeld, IsHonest}
 use Rattle.crash_laws.specs.Calls.{KeepsDurable}
 use Rattle.crash_laws.specs.Laws.{EntriesCount}
 use Rattle.voice_store.specs.declared.inside.Inside.{Inside}
-use Rattle.voice_store.specs.declared.inside.Doubted.{Doubted}
 use Rattle.voice_store.specs.Filled.{IsFilled}
 use Rattle.voice_store.specs.Facts.{landing_at}
 use Rattle.voice_store.specs.Playing.{bytes_by, PassagesBelow, NoneRecords, MovesLanes}

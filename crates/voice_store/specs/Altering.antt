@@ -1,7 +1,7 @@
 -- A change of rows, of the moment or a sweep, on its way to the journal.
 --     Weighs s b next c state effect      a change is ready in the tables of a store, and is this effect on the state
 --     Alters first t0 disk s call ready reply growth      nothing is in doubt, and nothing refuses the call that makes a change ready, but perhaps the journal
-use Rattle.std.specs.Prelude.{◌≡◌, ℕ, ◌+◌, List, length, Some, None, IsTrue}
+use Rattle.std.specs.Prelude.{◌≡◌, ℕ, ◌+◌, List, length, None, IsTrue}
 use Rattle.voice_units.specs.Spots.{Spot}
 use Rattle.voice_units.specs.declared.pieces.Piece.{Piece}
 use Rattle.voice_outside.specs.Disk.{Told}

@@ -3,7 +3,7 @@
 --     sounding sound bytes      its reply, of the bytes of the rope
 --     IsHeard honest s tapes call reply      the call is not refused, and this is its reply, on a disk that isn't honest but for the talk and peaks
 --     IsHeardOf honest s tapes sound id o      the reply of the call of a live rope, and none where the rope is not live
-use Rattle.std.specs.Prelude.{◌≡◌, ℕ, Bool, true, List, Option, Some, None, IsTrue}
+use Rattle.std.specs.Prelude.{◌≡◌, ℕ, Bool, List, Option, Some, None, IsTrue}
 use Rattle.voice_model.specs.Heard.{unheard}
 use Rattle.voice_model.specs.State.{State}
 use Rattle.voice_model.specs.Step.{refusal, reply_of}

@@ -2,6 +2,7 @@ pub mod Altering
 pub mod Asking
 pub mod DeviceCalls
 pub mod Facts
+pub mod Feeding
 pub mod Filled
 pub mod Keeping
 pub mod Playing

@@ -1,6 +1,7 @@
 -- What contracts see of a store.
 --     Shown      its disk, the disk as it was opened, and what it keeps besides, which is named in this crate alone
 --     history_of s, tapes_in s, block_of s      its history, its tapes, the length of a block
+--     pool_of s      which pool its leases are of
 --     HasRoomFor n s      the history takes so many entries more without memory
 --     FaultsCover low history high      there are at most so many entries of faults as faults rose, unless their count is at its end
 --     Stands first origin disk inside      the store was opened in this state, and all its history is legal from it and held
@@ -10,6 +11,7 @@
 use Rattle.std.specs.Prelude.{◌≡◌, ℕ, ◌+◌, ◌-◌, ◌^◌, ◌<◌, ◌≤◌, List, count_by, vec_len, vec_capacity}
 use Rattle.std.specs.Arc.{arc_value}
 use Rattle.voice_outside.specs.Disk.{Told}
+use Rattle.frame_pool.specs.Pool.{Identity}
 use Rattle.voice_model.specs.State.{State}
 use Rattle.voice_model.specs.declared.calls.Entry.{Entry}
 use Rattle.voice_store.specs.Stood.{Stood, is_fault, last_state}
@@ -46,6 +48,10 @@ module _ {D : Type 0} where
   -- the length of a block
   abbrev pub block_of : Shown D → ℕ
   block_of s = s.inside.journal.shape.block
+
+  -- which pool its leases are of
+  abbrev pub pool_of : Shown D → Identity
+  pool_of s = s.inside.lanes.frames.keeper.pool
 
   -- the history takes so many entries more without memory
   abbrev pub HasRoomFor : ℕ → Shown D → Type 0

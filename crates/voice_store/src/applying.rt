@@ -63,6 +63,7 @@ impl Inside {
         ensures still { self.old.doubt ≡ None → (disk.new ≡ disk.old) × (self.new ≡ self.old) }
         ensures room { vec_len self.new.history < vec_capacity self.new.history }
         ensures tapes { self.new.tapes ≡ self.old.tapes }
+        ensures pool { self.new.lanes.frames.keeper.pool ≡ self.old.lanes.frames.keeper.pool }
         ensures stood { (first : State) (t0 : ℕ) → Stood first t0 (D.told disk.old) self.old → Stood first t0 (D.told disk.new) self.new }
     {
         if self.doubt.is_none() {
@@ -99,6 +100,7 @@ impl Inside {
         ensures err { OnErr result (self.new.history.items ≡ self.old.history.items) }
         ensures still { OnErr result (disk.new ≡ disk.old) }
         ensures tapes { self.new.tapes ≡ self.old.tapes }
+        ensures pool { self.new.lanes.frames.keeper.pool ≡ self.old.lanes.frames.keeper.pool }
         ensures stood { (first : State) (t0 : ℕ) → Stood first t0 (D.told disk.old) self.old → Stood first t0 (D.told disk.new) self.new }
         ensures spare { (first : State) (t0 : ℕ) → Stood first t0 (D.told disk.old) self.old → IsTrue (takes_no_memory call) → FitsBehindOthers (last_of first self.old) (tapes_of self.old) call → IsOk result }
     {
@@ -135,6 +137,7 @@ impl Inside {
         ensures few { (first : State) (t0 : ℕ) → Stood first t0 (D.told disk.old) self.old → OnErr result ((D.told disk.new).calls ≤ (D.told disk.old).calls + landing_calls (last_of first self.old)) }
         ensures still { self.old.doubt ≡ None → OnErr result ((disk.new ≡ disk.old) × (self.new.history.items ≡ self.old.history.items)) }
         ensures tapes { self.new.tapes ≡ self.old.tapes }
+        ensures pool { self.new.lanes.frames.keeper.pool ≡ self.old.lanes.frames.keeper.pool }
         ensures stood { (first : State) (t0 : ℕ) → Stood first t0 (D.told disk.old) self.old → Stood first t0 (D.told disk.new) self.new }
         ensures spare { self.old.doubt ≡ None → (first : State) (t0 : ℕ) → Stood first t0 (D.told disk.old) self.old → IsTrue (takes_no_memory call) → FitsBehindOthers (last_of first self.old) (tapes_of self.old) call → IsOk result }
     {
@@ -167,6 +170,7 @@ impl Inside {
         ensures goes { GoesOn (D.told disk.old) (D.told disk.new) }
         ensures calls { (first : State) (t0 : ℕ) → Stood first t0 (D.told disk.old) self.old → (D.told disk.new).calls ≤ (D.told disk.old).calls + most_calls (last_of first self.old) (tapes_of self.old) call }
         ensures tapes { self.new.tapes ≡ self.old.tapes }
+        ensures pool { self.new.lanes.frames.keeper.pool ≡ self.old.lanes.frames.keeper.pool }
         ensures stood { (first : State) (t0 : ℕ) → Stood first t0 (D.told disk.old) self.old → Stood first t0 (D.told disk.new) self.new }
     {
         self.reserve(2)?;

@@ -154,6 +154,7 @@ impl Inside {
         ensures cause { IsFault result → HasRisen (D.told disk.old).faults (D.told disk.new).faults }
         ensures items { self.new.history.items ≡ self.old.history.items ++ entry_of caller call result (D.told disk.new).calls ∷ [] }
         ensures tapes { self.new.tapes ≡ self.old.tapes }
+        ensures pool { self.new.lanes.frames.keeper.pool ≡ self.old.lanes.frames.keeper.pool }
         ensures stood { (first : State) (t0 : ℕ) (b : Rebuilt) (c : Change) (effect : Effect Tagged) → Trying first t0 (D.told disk.old) self.old b next c effect caller call replies.0 → FitsBehind (last_of first self.old) effect → Stood first t0 (D.told disk.new) self.new }
     {
         foundations();
@@ -192,6 +193,7 @@ impl Inside {
         ensures cause { IsFault result → HasRisen (D.told disk.old).faults (D.told disk.new).faults }
         ensures items { self.new.history.items ≡ self.old.history.items ++ entry_of caller call result (D.told disk.new).calls ∷ [] }
         ensures tapes { self.new.tapes ≡ self.old.tapes }
+        ensures pool { self.new.lanes.frames.keeper.pool ≡ self.old.lanes.frames.keeper.pool }
         ensures stood { (first : State) (t0 : ℕ) (b : Rebuilt) (c : Change) (effect : Effect Tagged) → Trying first t0 (D.told disk.old) self.old b next c effect caller call replies.0 → FitsOther (last_of first self.old) effect → IsBaseOf self.old.journal.shape (acted b c) base.now → Stood first t0 (D.told disk.new) self.new }
     {
         foundations();
@@ -236,6 +238,7 @@ impl Inside {
         ensures cause { IsFault result → HasRisen (D.told disk.old).faults (D.told disk.new).faults }
         ensures items { self.new.history.items ≡ self.old.history.items ++ entry_of caller call result (D.told disk.new).calls ∷ [] }
         ensures tapes { self.new.tapes ≡ self.old.tapes }
+        ensures pool { self.new.lanes.frames.keeper.pool ≡ self.old.lanes.frames.keeper.pool }
         ensures stood { (first : State) (t0 : ℕ) (b : Rebuilt) (c : Change) (effect : Effect Tagged) → Trying first t0 (D.told disk.old) self.old b next c effect caller call replies.0 → IsPlan self.old.journal (last_of first self.old) effect (acted b c) plan → Stood first t0 (D.told disk.new) self.new }
     {
         match plan {

@@ -96,6 +96,7 @@ impl Inside {
         ensures err { OnErr result (self.new.history.items ≡ self.old.history.items) }
         ensures still { OnErr result (disk.new ≡ disk.old) }
         ensures tapes { self.new.tapes ≡ self.old.tapes }
+        ensures pool { self.new.lanes.frames.keeper.pool ≡ self.old.lanes.frames.keeper.pool }
         ensures stood { (first : State) (t0 : ℕ) → HasWay first t0 (D.told disk.old) self.old call pieces way → Stood first t0 (D.told disk.new) self.new }
     {
         foundations();
@@ -128,6 +129,7 @@ impl Inside {
         ensures err { OnErr result (self.new.history.items ≡ self.old.history.items) }
         ensures still { OnErr result (disk.new ≡ disk.old) }
         ensures tapes { self.new.tapes ≡ self.old.tapes }
+        ensures pool { self.new.lanes.frames.keeper.pool ≡ self.old.lanes.frames.keeper.pool }
         ensures stood { (first : State) (t0 : ℕ) → MakesRope first t0 (D.told disk.old) self.old call pieces → Stood first t0 (D.told disk.new) self.new }
     {
         let count = pieces.count();
@@ -161,6 +163,7 @@ impl Inside {
         ensures err { OnErr result (self.new.history.items ≡ self.old.history.items) }
         ensures still { OnErr result (disk.new ≡ disk.old) }
         ensures tapes { self.new.tapes ≡ self.old.tapes }
+        ensures pool { self.new.lanes.frames.keeper.pool ≡ self.old.lanes.frames.keeper.pool }
         ensures stood { (first : State) (t0 : ℕ) → Stood first t0 (D.told disk.old) self.old → Stood first t0 (D.told disk.new) self.new }
     {
         match self.make(&call)? {

@@ -40,6 +40,7 @@ impl Inside {
         ensures err { OnErr result (self.new ≡ self.old) }
         ensures plain { IfOk result (λ reply. ¬ IsFault reply) }
         ensures tapes { self.new.tapes ≡ self.old.tapes }
+        ensures pool { self.new.lanes.frames.keeper.pool ≡ self.old.lanes.frames.keeper.pool }
         ensures stood { (first : State) (t0 : ℕ) → Stood first t0 (D.told disk.now) self.old → Stood first t0 (D.told disk.now) self.new }
     {
         if self.made >= LAST_JOB {
@@ -96,6 +97,7 @@ impl Inside {
         ensures items { self.new.history.items ≡ self.old.history.items ++ entry_of caller (Call.Stop lane) result (D.told disk.now).calls ∷ [] }
         ensures plain { ¬ IsFault result }
         ensures tapes { self.new.tapes ≡ self.old.tapes }
+        ensures pool { self.new.lanes.frames.keeper.pool ≡ self.old.lanes.frames.keeper.pool }
         ensures stood { (first : State) (t0 : ℕ) → Stood first t0 (D.told disk.now) self.old → Stood first t0 (D.told disk.now) self.new }
     {
         let shape = self.journal.shape();
@@ -123,6 +125,7 @@ impl Inside {
         ensures items { self.new.history.items ≡ self.old.history.items ++ entry_of caller (Call.Stop lane) result (D.told disk.now).calls ∷ [] }
         ensures plain { ¬ IsFault result }
         ensures tapes { self.new.tapes ≡ self.old.tapes }
+        ensures pool { self.new.lanes.frames.keeper.pool ≡ self.old.lanes.frames.keeper.pool }
         ensures stood { (first : State) (t0 : ℕ) → Stood first t0 (D.told disk.now) self.old → Stood first t0 (D.told disk.now) self.new }
     {
         self.stop_by::<D, Brand>(disk, caller, lane, Blank::new(1))

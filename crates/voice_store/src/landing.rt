@@ -55,6 +55,7 @@ impl Inside {
         ensures len { vec_len self.new.history ≤ vec_len self.old.history + 1 }
         ensures capacity { vec_capacity self.old.history ≤ vec_capacity self.new.history }
         ensures tapes { self.new.tapes ≡ self.old.tapes }
+        ensures pool { self.new.lanes.frames.keeper.pool ≡ self.old.lanes.frames.keeper.pool }
         ensures stood { (first : State) (t0 : ℕ) → Stood first t0 (D.told disk.old) self.old → Stood first t0 (D.told disk.new) self.new }
     {
         if self.doubt.is_none() {

@@ -6,6 +6,7 @@ mod applying;
 mod committing;
 mod editing;
 mod entering;
+mod feeding;
 mod hearing;
 mod inside;
 mod jobs;
@@ -18,5 +19,6 @@ mod store;
 mod ways;
 
 pub use inside::{Doubted, Inside};
+pub use lane_calls::Fed;
 pub use store::Store;
 pub use voice_journal::OpenError;

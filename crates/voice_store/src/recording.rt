@@ -132,6 +132,7 @@ impl Inside {
         ensures cause { IsFault result → HasRisen (D.told disk.old).faults (D.told disk.new).faults }
         ensures items { self.new.history.items ≡ self.old.history.items ++ entry_of caller (Call.Record take) result (D.told disk.new).calls ∷ [] }
         ensures tapes { self.new.tapes ≡ self.old.tapes }
+        ensures pool { self.new.lanes.frames.keeper.pool ≡ self.old.lanes.frames.keeper.pool }
         ensures stood { (rope : RopeValue) → next ≡ NextChange.Rope rope → (first : State) (t0 : ℕ) (h : HoldsRecording first t0 (D.told disk.old) self.old take rope) → IsPlan self.old.journal (last_of first self.old) (recorded_by (last_of first self.old) (tapes_of self.old) take) (acted h.makes.stood.b (next_change h.makes.stood.b.form rope)) plan → Stood first t0 (D.told disk.new) self.new }
     {
         foundations();
@@ -165,6 +166,7 @@ impl Inside {
         ensures err { OnErr result (self.new.history.items ≡ self.old.history.items) }
         ensures still { OnErr result (disk.new ≡ disk.old) }
         ensures tapes { self.new.tapes ≡ self.old.tapes }
+        ensures pool { self.new.lanes.frames.keeper.pool ≡ self.old.lanes.frames.keeper.pool }
         ensures stood { (first : State) (t0 : ℕ) → HasRoom first t0 (D.told disk.old) self.old take way → Stood first t0 (D.told disk.new) self.new }
     {
         let shape = self.journal.shape();
@@ -194,6 +196,7 @@ impl Inside {
         ensures err { OnErr result (self.new.history.items ≡ self.old.history.items) }
         ensures still { OnErr result (disk.new ≡ disk.old) }
         ensures tapes { self.new.tapes ≡ self.old.tapes }
+        ensures pool { self.new.lanes.frames.keeper.pool ≡ self.old.lanes.frames.keeper.pool }
         ensures stood { (first : State) (t0 : ℕ) → MakesRecording first t0 (D.told disk.old) self.old take → Stood first t0 (D.told disk.new) self.new }
     {
         let shape = self.journal.shape();
@@ -233,6 +236,7 @@ impl Inside {
         ensures err { OnErr result (self.new.history.items ≡ self.old.history.items) }
         ensures still { OnErr result (disk.new ≡ disk.old) }
         ensures tapes { self.new.tapes ≡ self.old.tapes }
+        ensures pool { self.new.lanes.frames.keeper.pool ≡ self.old.lanes.frames.keeper.pool }
         ensures stood { (first : State) (t0 : ℕ) → Stood first t0 (D.told disk.old) self.old → Stood first t0 (D.told disk.new) self.new }
     {
         let shape = self.journal.shape();

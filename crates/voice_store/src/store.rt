@@ -1,6 +1,6 @@
 //! The store.
 
-ghost use Rattle.std.specs.Prelude.{◌≡◌, ◌≤◌, ◌+◌, ◌-◌, ◌⊎◌, ℕ, [], Some, None, false, IsTrue, IsOk, IfOk, IfErr, OnOk, OnErr};
+ghost use Rattle.std.specs.Prelude.{◌≡◌, ◌≤◌, ◌+◌, ◌-◌, ◌⊎◌, ◌++◌, ◌∷◌, ℕ, [], Some, None, true, false, IsTrue, IsOk, IfOk, IfErr, OnOk, OnErr, if◌then◌else◌};
 ghost use Rattle.std.specs.Arc.{arc_value};
 ghost use Rattle.voice_outside.specs.Counters.{HasRisen};
 ghost use Rattle.voice_outside.specs.Disk.{MakesAtMost, Now};
@@ -11,17 +11,22 @@ ghost use Rattle.voice_model.specs.State.{State, formatted};
 ghost use Rattle.voice_model.specs.Room.{free};
 ghost use Rattle.voice_model.specs.Valid.{InRange};
 ghost use Rattle.voice_model.specs.Image.{Reading, reading, opened_from};
-ghost use Rattle.voice_store.specs.Shown.{Keeps, HasRoomFor, history_of, tapes_in, state_of};
+ghost use Rattle.frame_pool.specs.Pool.{spent};
+ghost use Rattle.lane_calls.specs.Answers.{HasStopped};
+ghost use Rattle.voice_store.specs.Feeding.{told, HasSamples};
+ghost use Rattle.voice_store.specs.Shown.{Keeps, HasRoomFor, history_of, tapes_in, pool_of, state_of};
 ghost use Rattle.voice_store.specs.Stood.{ShowsState};
-ghost use Rattle.listening.specs.Looks.{OnlyLooked};
-ghost use Rattle.voice_store.specs.Facts.{Adds, AddsLanding, Goes, GoesOn, IsFault, TakesAreIn, HasRopes, hears, only_tells, most_reads};
+ghost use Rattle.listening.specs.Looks.{OnlyLooked, Looked};
+ghost use Rattle.voice_store.specs.Facts.{entry_of, Adds, AddsLanding, Goes, GoesOn, IsFault, TakesAreIn, HasRopes, hears, only_tells, most_reads};
 ghost use Rattle.voice_store.specs.DeviceCalls.{landing_calls, most_calls};
 ghost use Rattle.voice_store.specs.Spare.{FitsBehindOthers};
 ghost use Rattle.row_calls.specs.Asked.{takes_no_memory};
 ghost use Rattle.built_calls.specs.Built.{is_built};
 
 use crate::inside::Inside;
+use frame_pool::Lease;
 use journal_readings::laws::opens_empty;
+use lane_calls::Fed;
 use recovery::Parts;
 use std::alloc::Global;
 use std::marker::Model;
@@ -30,7 +35,7 @@ use std::sync::Arc;
 use voice_journal::{Journal, OpenError};
 use voice_model::{Call, Entry, Reply, Tapes};
 use voice_outside::Disk;
-use voice_units::{Failed, NoMemory, Shape};
+use voice_units::{Failed, Lane, NoMemory, Shape};
 
 /// The voice manager's store over a disk: the calls of several callers, one at a time, and the history of them. Contracts see the disk, the disk as it was opened, the tapes and the history; the state is that of the history, from what the disk's bytes were as it was opened.
 #[derive(Drop)]
@@ -117,6 +122,7 @@ impl<D: Disk> Store<D> {
         ensures looks { IsTrue (hears call) → IsTrue (D.told self.old.disk).honest → OnlyLooked (D.told self.old.disk) (D.told self.new.disk) }
         ensures origin { self.new.origin ≡ self.old.origin }
         ensures tapes { tapes_in self.new ≡ tapes_in self.old }
+        ensures pool { pool_of self.new ≡ pool_of self.old }
     {
         self.inside.apply(&mut self.disk, caller, call)
     }
@@ -127,9 +133,50 @@ impl<D: Disk> Store<D> {
         ensures spare { HasRoomFor n self.old → IsOk result }
         ensures history { history_of self.new ≡ history_of self.old }
         ensures state { (first : State) → Keeps D.told first self.old → Keeps D.told first self.new }
-        ensures rest { (self.new.disk ≡ self.old.disk) × (self.new.origin ≡ self.old.origin) × (tapes_in self.new ≡ tapes_in self.old) }
+        ensures rest { (self.new.disk ≡ self.old.disk) × (self.new.origin ≡ self.old.origin) × (tapes_in self.new ≡ tapes_in self.old) × (pool_of self.new ≡ pool_of self.old) }
     {
         self.inside.reserve(n)
+    }
+
+    /// Asks for a caller for the next window of a lane's first job, while no window comes back, and adds the entry to the history. It is refused where the lane is unknown, has no job, or has a window out, in this order. A job that was stopped or heard to its end leaves the lane.
+    pub fn feed(&mut self, caller: u16, lane: Lane) -> Result<Fed, NoMemory>
+        ensures entry { IfOk result (λ fed. history_of self.new ≡ history_of self.old ++ entry_of caller (Call.Feed lane None) (told fed) (D.told self.new.disk).calls ∷ []) }
+        ensures err { OnErr result (history_of self.new ≡ history_of self.old) }
+        // The history stays legal and held, as after a call that is applied.
+        ensures state { (first : State) → Keeps D.told first self.old → Keeps D.told first self.new }
+        // The lease of a window has the samples of the first job's passage, from where it begins, whatever was removed, freed or recorded meanwhile.
+        ensures samples { IsTrue (D.told self.old.disk).honest → (first : State) → Keeps D.told first self.old → IfOk result (HasSamples (state_of first self.old) lane) }
+        ensures cause { IfOk result (λ fed. IsFault (told fed) → HasRisen (D.told self.old.disk).faults (D.told self.new.disk).faults) }
+        // It reads at most four blocks, and changes no byte.
+        ensures looks { Looked 4 (D.told self.old.disk) (D.told self.new.disk) }
+        ensures origin { self.new.origin ≡ self.old.origin }
+        ensures tapes { tapes_in self.new ≡ tapes_in self.old }
+        ensures pool { pool_of self.new ≡ pool_of self.old }
+    {
+        self.inside.reserve(1)?;
+        self.inside.feed(&mut self.disk, caller, lane)
+    }
+
+    /// Brings for a caller the lease of a window back, of which so much was heard, and asks for the next window of its lane's first job, as `feed`. After `NoMemory` the lease may be taken back already, and can be brought back again; one that is not that of a window which is out is always answered so, with all as before.
+    pub fn serve(&mut self, caller: u16, lease: &mut Lease, heard: u32) -> Result<Fed, NoMemory>
+        requires pool { lease.old.pool ≡ pool_of self.old }
+        requires most { heard ≤ lease.old.len }
+        ensures entry { IfOk result (λ fed. history_of self.new ≡ history_of self.old ++ entry_of caller (Call.Feed lease.old.lane (Some heard)) (told fed) (D.told self.new.disk).calls ∷ []) }
+        ensures err { OnErr result (history_of self.new ≡ history_of self.old) }
+        ensures state { (first : State) → Keeps D.told first self.old → Keeps D.told first self.new }
+        ensures samples { IsTrue (D.told self.old.disk).honest → (first : State) → Keeps D.told first self.old → IfOk result (HasSamples (state_of first self.old) lease.old.lane) }
+        // A lease whose player saw the hint is that of a job that is stopped.
+        ensures hinted { lease.old.taken ≡ false → lease.old.hinted ≡ true → IfOk result HasStopped }
+        ensures lease { (lease.new ≡ lease.old) ⊎ (lease.new ≡ spent lease.old) }
+        ensures back { IfOk result (λ fed. lease.new ≡ (if lease.old.taken then lease.old else spent lease.old)) }
+        ensures cause { IfOk result (λ fed. IsFault (told fed) → HasRisen (D.told self.old.disk).faults (D.told self.new.disk).faults) }
+        ensures looks { Looked 4 (D.told self.old.disk) (D.told self.new.disk) }
+        ensures origin { self.new.origin ≡ self.old.origin }
+        ensures tapes { tapes_in self.new ≡ tapes_in self.old }
+        ensures pool { pool_of self.new ≡ pool_of self.old }
+    {
+        self.inside.reserve(1)?;
+        self.inside.serve(&mut self.disk, caller, lease, heard)
     }
 
     /// The calls so far, in order.

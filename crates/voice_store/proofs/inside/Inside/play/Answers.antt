@@ -1,9 +1,6 @@
-use Rattle.std.proofs.Common.{◌≡◌, ◌+◌, ◌++◌, ◌∷◌, [], ℕ, List, IsTrue, is_some, refl, sym, ◌∙◌, ap, subst}
-use Rattle.voice_units.specs.declared.pieces.Piece.{Piece}
-use Rattle.voice_model.specs.State.{State}
+use Rattle.std.proofs.Common.{◌≡◌, ◌+◌, ◌++◌, ◌∷◌, [], ℕ, IsTrue, is_some, refl, sym, ◌∙◌, ap, subst}
 use Rattle.voice_model.specs.declared.calls.Call.TheVariants as calls
 use Rattle.voice_model.specs.declared.calls.Reply.TheVariants as replies
-use Rattle.voice_model.specs.declared.calls.Entry.{Entry}
 use Rattle.crash_laws.specs.Standing.{IsHonest}
 use Rattle.crash_laws.proofs.Noted.{entries_count}
 use Rattle.lane_calls.specs.Answers.{IsPlayed, IsJob, StaysRefused}

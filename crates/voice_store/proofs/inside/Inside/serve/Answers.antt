@@ -1,0 +1,6 @@
+use Rattle.play_queue.specs.Queued.{lane_of}
+use Rattle.voice_store.proofs.Windowed.{looked_four}
+use Rattle.voice_store.proofs.inside.Inside.serve.Goals as goal
+
+pub returns-clause-looks : goal.returns-clause-looks
+returns-clause-looks g c = let s = c.args.self.now in looked_four s.journal.shape.block c.args.heard s.lanes.frames.resident (lane_of s.lanes.queues c.args.lease.now.lane) (g.D.Disk.told c.args.disk.now) (g.D.Disk.told c.serve_by.new.disk) c.serve_by.ensures.made
