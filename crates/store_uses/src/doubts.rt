@@ -62,6 +62,18 @@ fn what_is_in_doubt_lands_first(rt: HostRuntime) -> Result<(), Fail> {
     Ok(())
 }
 
+// Plays are queued and stopped while a change is in doubt: they wait for no landing, and make none.
+const QUEUES: &[u8] =
+    b"1 a = record f20\n1 sub a 0 5\n1 queue 0 a 0 20\n1 stop 0\n1 sub a 0 6\n1 length 2\n";
+
+#[test]
+fn queues_go_on_in_doubt(rt: HostRuntime) -> Result<(), Fail> {
+    let disk = small_disk(rt.alloc(), 2, &[18])?;
+    let wanted =
+        b"1 1 record: rope 1 length 20\n2 1 sub: no in-doubt\n3 1 play: job 1\n4 1 stop: number 1\n5 0 landed: done\n6 1 sub: rope 3 length 6\n7 1 length: number 5\n";
+    assert_prints(&rt, rt.alloc(), QUEUES, disk, wanted)
+}
+
 // Asserts that the samples of the first recording stand there, zeros up to the end of its last block, and what was there behind it.
 fn assert_filled(rt: &impl Abort, alloc: Global, disk: &MemDisk) -> Result<(), Fail> {
     let bytes = bytes_of(alloc, disk)?;
