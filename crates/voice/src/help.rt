@@ -21,8 +21,8 @@ The disk is voice.disk there, made and formatted where absent. A script: # comme
   CALLER [VARIABLE =] concat ROPE ..                  CALLER forget CLASS KEY
   CALLER [VARIABLE =] sub ROPE START LEN              CALLER census KEY ..
   CALLER [VARIABLE =] replace ROPE START LEN OTHER    CALLER advance MOMENT
-  CALLER [VARIABLE =] lookup CLASS KEY                CALLER sweep LIMIT
-  CALLER length ROPE, CALLER describe ROPE, CALLER levels ROPE
+  CALLER [VARIABLE =] lookup CLASS KEY                CALLER sweep LIMIT, CALLER stop LANE
+  CALLER length ROPE (so describe, levels)            CALLER queue LANE ROPE START LEN
 CALLER is 1 to 16, FILE a file of the folder (8,000 one-byte mu-law samples a second),
 ROPE a variable or number, CLASS held, until or listed; docs/SCRIPT.md tells the rest.
 
