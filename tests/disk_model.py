@@ -1,14 +1,18 @@
 #!/usr/bin/env python3
 """A random script of 60 lines, and a plain model of what it does, on lists of samples.
-disk_model.py SEED FOLDER          writes the script random.vs and its sample files into the folder
+disk_model.py SEED FOLDER          writes the script random.vs, its sample files and a disk of zero bytes into the folder, and prints the words of `format` for it
 disk_model.py SEED FOLDER PRINTED  compares what the program printed, and FOLDER/voice.disk as read_disk.py reads it, with the model
-The disk is the one that disk_page.sh formats: BLOCK, BLOCKS, AREA and GRACES below."""
+What is printed names the callers in the order of their calls, which need not be that of the lines: callers on threads choose it.
+Disks of odd seeds have small areas, so that the journal switches and gets full, and those of even seeds few blocks; each fifth script plays much."""
 import sys
 from read_disk import Disk
 
-BLOCK, BLOCKS, AREA, GRACES = 8, 64, 1024, [30, 10, 20, 40]
+BLOCK, GRACES, LANES, JOBS = 8, [30, 10, 20, 40], 3, 8
 LENGTHS = [0, 1, 7, 8, 9, 20, 64, 100]
 CLASSES = ['held', 'until', 'listed']
+
+
+def sizes(seed): return (64, 1024) if seed % 2 else (24, 1280)
 
 
 class Draws:
@@ -23,16 +27,19 @@ def file_bytes(k): return bytes((7 * i + 31 * k + 1) % 256 for i in range(LENGTH
 
 class Model:
     """Ropes are lists of samples (byte, voice file, place); nothing is shared and nothing is counted beforehand."""
-    def __init__(self):
+    def __init__(self, seed):
+        self.seed, (self.blocks, self.area) = seed, sizes(seed)
         self.ropes, self.rows, self.moment, self.next = {}, {}, 0, 1      # ropes: number to [samples, idle, last]
-        self.left, self.epoch = AREA - 17, 1
+        self.left, self.epoch = self.area - 17, 1
+        self.lanes, self.job = [[] for _ in range(LANES)], 0              # the lanes' jobs: the passage, none where it is stopped
     def copy(self):
-        other = Model()
+        other = Model(self.seed)
         other.__dict__.update(self.__dict__, ropes={n: list(r) for n, r in self.ropes.items()}, rows=dict(self.rows))
         return other
     def pieces(self, samples):
         return sum(k == 0 or samples[k - 1][1:] != (f, p - 1) for k, (_, f, p) in enumerate(samples))
     def used(self): return {(f, p // BLOCK) for samples, _, _ in self.ropes.values() for _, f, p in samples}
+    def held(self): return {(f, p // BLOCK) for lane in self.lanes for samples in lane for _, f, p in samples or []}
     def base(self):
         used = self.used()
         return (22 + 18 * len({f for f, _ in used}) + 8 * len(used) + sum(25 + 16 * self.pieces(r[0]) for r in self.ropes.values())
@@ -42,9 +49,9 @@ class Model:
         after = self.copy()
         change(after)
         need, fits = after.base(), payload + 5 <= self.left
-        if need > AREA - 17 and not (fits and need <= self.base()):
-            return f'no journal-full {need} {AREA - 17}'
-        after.left, after.epoch = (self.left - payload - 5, self.epoch) if fits else (AREA - 17 - need, self.epoch + 1)
+        if need > self.area - 17 and not (fits and need <= self.base()):
+            return f'no journal-full {need} {self.area - 17}'
+        after.left, after.epoch = (self.left - payload - 5, self.epoch) if fits else (self.area - 17 - need, self.epoch + 1)
         self.__dict__.update(after.__dict__)
         return reply
     def add(self, samples): self.ropes[self.next], self.next = [samples, self.moment, 0], self.next + 1
@@ -70,7 +77,7 @@ class Model:
     def call(self, verb, *a):
         samples = lambda n: self.ropes[n][0]
         if verb == 'record':
-            data, need, free = file_bytes(a[0]), -(-LENGTHS[a[0]] // BLOCK), BLOCKS - len(self.used())
+            data, need, free = file_bytes(a[0]), -(-LENGTHS[a[0]] // BLOCK), self.blocks - len(self.used() | self.held())
             if need > free:
                 return f'no no-room {need} {free}'
             made = [(b, self.next, p) for p, b in enumerate(data)]
@@ -93,6 +100,29 @@ class Model:
             return self.commit(lambda m: m.rows.update({row: (rope, note)}), 12 + len(row[1]) + len(note), 'done')
         if verb == 'forget':
             return self.commit(lambda m: m.drop([a[0]]), 3 + len(a[0][1]), 'done') if a[0] in self.rows else 'no no-interest'
+        if verb == 'length':
+            return self.unknown(*a) or f'number {len(samples(a[0]))}'
+        if verb == 'lookup':
+            rope, note = self.rows.get(a[0], (0, b''))
+            return f'found {rope} {note.hex() or "-"}' if rope else 'no no-interest'
+        if verb == 'census':
+            gone = [row for row in self.rows if row[0] == 'listed' and row[1] not in a]
+            return self.commit(lambda m: m.drop(gone), 3 + sum(1 + len(key) for _, key in gone), f'number {len(gone)}') if gone else 'number 0'
+        if verb in ('play', 'stop') and a[0] >= LANES:
+            return f'no unknown-lane {LANES}'
+        if verb == 'play':
+            lane, n, start, length = a
+            if self.unknown(n) or len(self.lanes[lane]) == JOBS:
+                return self.unknown(n) or 'no queue-full'
+            if start + length > len(samples(n)):
+                return f'no bad-interval {len(samples(n))}'
+            self.lanes[lane].append(samples(n)[start:start + length])
+            self.job += 1
+            return f'job {self.job}'
+        if verb == 'stop':
+            count = sum(samples is not None for samples in self.lanes[a[0]])
+            self.lanes[a[0]] = [None] * len(self.lanes[a[0]])
+            return f'number {count}'
         if verb == 'advance':
             return 'done' if a[0] <= self.moment else self.commit(lambda m: setattr(m, 'moment', a[0]), 9, 'done')
         rows, gone = self.expired(), self.due(a[0])       # a sweep
@@ -100,12 +130,17 @@ class Model:
         return self.commit(lambda m: m.swept(gone), 3 + 8 * len(gone), reply) if rows or gone else reply
 
 
-def lines(seed):
-    """The lines of the script, what each prints, and the model after all of them."""
-    d, m, script, printed = Draws(seed), Model(), [], []
+def calls(seed):
+    """The calls of the script, each with its caller and its line; they are drawn so that most name what is there, in the order of the lines."""
+    d, m, drawn = Draws(seed), Model(seed), []
     rope = lambda: list(m.ropes)[d.draw(len(m.ropes))] if m.ropes and d.draw(12) else d.draw(40)
+    key = lambda: b'k%d' % d.draw(6)
+    def interval(n):
+        length = len(m.ropes[n][0]) if n in m.ropes else 9
+        start = d.draw(length + 1)
+        return start, d.draw(length - start + 2)
     for k in range(60):
-        o, caller = d.draw(12), 1 + d.draw(3)
+        o, caller = 12 if seed % 5 == 0 and d.draw(2) else d.draw(16), 1 + d.draw(3)
         if o < 3:
             call = ('record', d.draw(8))
             text = f'record f{call[1]}'
@@ -114,21 +149,40 @@ def lines(seed):
             text = ' '.join(map(str, call))
         elif o < 6:
             n = rope()
-            length = len(m.ropes[n][0]) if n in m.ropes else 9
-            start = d.draw(length + 1)
-            call = ('sub', n, start, d.draw(length - start + 2)) if o == 4 else ('replace', n, start, d.draw(length - start + 2), rope())
+            call = ('sub', n, *interval(n)) if o == 4 else ('replace', n, *interval(n), rope())
             text = ' '.join(map(str, call))
         elif o < 9:
-            row, n = (CLASSES[d.draw(3)], b'k%d' % d.draw(6)), rope()
+            row, n = (CLASSES[d.draw(3)], key()), rope()
             note = (10 * k + d.draw(100)).to_bytes(8, 'big') if row[0] == 'until' else bytes(range(d.draw(4)))
             call = ('retain', row, n, note) if o < 8 else ('forget', list(m.rows)[d.draw(len(m.rows))] if m.rows else row)
             text = f'{call[0]} {call[1][0]} {call[1][1].decode()}' + (f' {n} {note.hex() or "-"}' if o < 8 else '')
-        else:
+        elif o < 12:
             call = ('advance', 8 * k) if o < 11 else ('sweep', d.draw(5))
             text = f'{call[0]} {call[1]}'
-        script.append(f'{caller} {text}\n')
-        printed.append(f'{k + 1} {caller} {call[0]}: {m.call(*call)}\n')
-    return ''.join(script), ''.join(printed), m
+        elif o < 14:
+            n = rope()
+            lane = d.draw(3) and d.draw(LANES + 1)
+            call = ('play', lane, n, *interval(n)) if o == 12 or d.draw(3) else ('stop', lane)
+            text = ' '.join(map(str, call)).replace('play', 'queue')
+        elif o == 14:
+            call = ('lookup', (CLASSES[d.draw(3)], key())) if d.draw(2) else ('length', rope())
+            text = f'{call[0]} ' + (f'{call[1][0]} {call[1][1].decode()}' if call[0] == 'lookup' else str(call[1]))
+        else:
+            call = ('census',) + tuple({key(): None for _ in range(1 + d.draw(4))})
+            text = 'census ' + ' '.join(one.decode() for one in call[1:])
+        m.call(*call)
+        drawn.append((caller, call, f'{caller} {text}\n'))
+    return drawn
+
+
+def history(seed, drawn, callers):
+    """What is printed where the callers come in that order, and the model after all calls."""
+    m, own = Model(seed), {caller: [call for by, call, _ in drawn if by == caller] for caller in {by for by, _, _ in drawn}}
+    printed = []
+    for number, caller in enumerate(callers, 1):
+        call = own[caller].pop(0)
+        printed.append(f'{number} {caller} {call[0]}: {m.call(*call)}\n')
+    return ''.join(printed), m
 
 
 def differs(what, found, wanted):
@@ -137,14 +191,24 @@ def differs(what, found, wanted):
 
 
 def main(seed, folder, printed=None):
-    script, text, m = lines(int(seed))
+    seed = int(seed)
+    drawn = calls(seed)
     if printed is None:
-        for name, data in [('random.vs', script.encode())] + [(f'f{k}', file_bytes(k)) for k in range(8)]:
+        script, (blocks, area) = ''.join(line for _, _, line in drawn).encode(), sizes(seed)
+        files = [('random.vs', script), ('voice.disk', bytes(64 + 2 * area + BLOCK * blocks))] + [(f'f{k}', file_bytes(k)) for k in range(8)]
+        for name, data in files:
             with open(f'{folder}/{name}', 'wb') as out:
                 out.write(data)
+        common, held, until, listed = GRACES
+        print(f'--block {BLOCK} --blocks {blocks} --area {area} --lanes {LANES} --grace {common} --held {held} --until {until} --listed {listed}')
         return
     with open(printed) as file:
-        differs('printed', file.read(), text)
+        found = file.read()
+    callers = [int(line.split()[1]) for line in found.splitlines()]
+    differs('callers', sorted(callers), sorted(caller for caller, _, _ in drawn))
+    text, m = history(seed, drawn, callers)
+    for line, wanted in zip(found.splitlines(), text.splitlines()):
+        differs('printed', line, wanted)
     with open(f'{folder}/voice.disk', 'rb') as file:
         disk = Disk(file.read())
     differs('ropes', {n: (disk.samples(n), idle, last) for n, (_, idle, last) in disk.ropes.items()},

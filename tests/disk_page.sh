@@ -109,11 +109,4 @@ damage "$((current + 21))" '\143' "$((current + 16))"
 cp "$work/sound" "$work/voice.disk"
 expect 'the disk is whole again' [ "$(reader "$work/voice.disk")" = "$(cat "$work/listed")" ]
 
-# Random scripts, against a plain model; the areas are small, so that the journal switches and gets full.
-for seed in 3 5; do
-    blank 2624 --block 8 --blocks 64 --area 1024 --grace 30 --held 10 --until 20 --listed 40
-    python3 "$tests/disk_model.py" "$seed" "$work"
-    voice run random.vs >"$work/.out"
-    expect "sixty random lines of seed $seed" python3 "$tests/disk_model.py" "$seed" "$work" "$work/.out"
-done
 finish

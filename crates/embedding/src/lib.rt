@@ -1,0 +1,12 @@
+//! A store in another program: two callers on threads share one, over a disk in memory. docs/EMBEDDING.md goes through it.
+#![tactic(auto)]
+
+mod opening;
+mod sharing;
+#[cfg(test)]
+mod tests;
+mod whole;
+
+pub use opening::{new_disk, open};
+pub use sharing::record_both;
+pub use whole::exchange;
