@@ -87,7 +87,13 @@ before=$(ls -A "$work" | grep -v '^\.' | sort)
 expect 'no file is made' [ "$before" = "$(ls -A "$work" | grep -v '^\.' | sort)" ]
 
 expect 'help' sh -c "'$top/voice' --help | grep -q '^  voice run NAME'"
-expect 'help is a screenful' [ "$("$top/voice" --help | wc -l)" -le 24 ]
+expect 'help is a page' [ "$("$top/voice" --help | wc -l)" -le 40 ]
+
+# The lines that help shows are a script.
+"$top/voice" --help | sed -n 's/^  CALLER .*  \([12] .*\)$/\1/p' >"$work/help.vs"
+expect 'help shows thirteen lines' [ "$(wc -l <"$work/help.vs")" = 13 ]
+rm -f "$work/voice.disk"
+expect 'a run of which does all' sh -c "cd '$work' && ! '$top/voice' run help.vs | grep -q ': no'"
 expect 'version' [ "$("$top/voice" --version)" = 'voice 0.1.0' ]
 cp -r "$top/examples" "$work/examples"
 expect 'the example' [ "$(cd "$work/examples" && "$top/voice" run first.vs)" = '1 1 record: rope 1 length 20' ]
