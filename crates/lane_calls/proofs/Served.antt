@@ -35,7 +35,7 @@ use Rattle.playing.specs.declared.turns.Fed.TheVariants as turns
 use Rattle.playing.proofs.Served as served
 use Rattle.playing.proofs.Holding.{sent_same, home_same, stopped_left, first_left, still_used}
 use Rattle.lane_calls.specs.Lanes.{ShowsLanes, Stands, ArePledged}
-use Rattle.lane_calls.specs.Answers.{IsAnswered, IsServed, IsTold, IsLetGo, HaveForgotten, MayFeed, MayEnd, HasBytes, BringsBack, HasStopped}
+use Rattle.lane_calls.specs.Answers.{IsAnswered, IsServed, IsTold, IsLetGo, HaveForgotten, MayFeed, MayEnd, HasBytes, IsHandedOut, BringsBack, HasStopped}
 use Rattle.lane_calls.specs.declared.outcomes.Fed.{Fed}
 use Rattle.lane_calls.specs.declared.outcomes.Fed.TheVariants as feds
 use Rattle.lane_calls.proofs.Asked.{lane_known, not_le, last_one, split_off, turned, gone_runs}
@@ -345,6 +345,12 @@ told_stop (turns.Stopped job) old new lanes after told is h = subst HasStopped (
 told_stop (turns.Ended job) old new lanes after told is h = absurd h
 told_stop (turns.Window at lease) old new lanes after told is h = absurd h
 told_stop turns.Fault old new lanes after told is h = absurd h
+
+pub told_fresh : (block more lane : ℕ) (fed : turn.Fed) (old new : Parts) (first lanes after : LanesState) (told : Fed) → IsTold fed old lanes new after told → FedTo block more lane fed first lanes → IsHandedOut first.frames.keeper.pool lane told
+told_fresh block more lane (turns.Stopped job) old new first lanes after told is h = subst (IsHandedOut first.frames.keeper.pool lane) (sym is.0) tt
+told_fresh block more lane (turns.Ended job) old new first lanes after told is h = subst (IsHandedOut first.frames.keeper.pool lane) (sym is.0) tt
+told_fresh block more lane (turns.Window at lease) old new first lanes after told is h = subst (IsHandedOut first.frames.keeper.pool lane) (sym is.0) (let sent = h.3 in (sent.pool, sent.on, sent.live, sent.fresh, sent.unhinted))
+told_fresh block more lane turns.Fault old new first lanes after told is h = subst (IsHandedOut first.frames.keeper.pool lane) (sym is.0) tt
 
 -- nothing was read
 pub nothing_read : (most : ℕ) (t : Told) → HasRead most t t

@@ -10,6 +10,7 @@
 --     HaveForgotten t lanes after, IsLetGo passage old new      frames forget the blocks that nothing uses;  a passage is let go
 --     IsTold turn old lanes new after told      what is done with what became of a lane's first job
 --     HasBytes bytes block more jobs fed      the lease has the bytes of the window
+--     IsHandedOut pool lane fed      the lease of a window was just handed out
 --     BringsBack lanes lane len fed, HasStopped fed, KeepsLease old one new fed      the window that came back was out;  the first job was stopped;  a lease that came back is spent
 --     IsStopped fill pledged takings b s tapes call made old lanes new after result      what a Stop comes to
 use Rattle.std.specs.Prelude.{◌≡◌, ℕ, ◌+◌, ◌<◌, ◌≤◌, Bool, true, false, List, [], ◌∷◌, length, map, Some, None, is_some, Result, Ok, Err}
@@ -27,7 +28,7 @@ use Rattle.rope_table.specs.declared.ropes.Rope.{Rope}
 use Rattle.rope_table.specs.Table.{Table, Counts, pieces_at}
 use Rattle.recovery.specs.declared.parts.Parts.{Parts}
 use Rattle.edits.specs.Tables.{pieces_here}
-use Rattle.frame_pool.specs.Pool.{LeaseState}
+use Rattle.frame_pool.specs.Pool.{Identity, LeaseState}
 use Rattle.play_queue.specs.declared.jobs.Job as queue
 use Rattle.play_queue.specs.Queued.{lane_of}
 use Rattle.playing.specs.Frames.{AreUsed, uses_of, Forgets}
@@ -125,6 +126,11 @@ IsTold turns.Fault old lanes new after told = (told ≡ feds.Fault) × (new ≡ 
 abbrev pub HasBytes : (ℕ → ℕ → List ℕ) → ℕ → ℕ → List queue.Job → Fed → Type 0
 HasBytes bytes block more jobs (feds.Window at lease) = lease.samples ≡ map (byte_in bytes block) (spots_of (next_window block more jobs))
 HasBytes bytes block more jobs _ = Unit {0}
+
+-- the lease of a window, if there is one, was just handed out on a lane: it is of this pool, live and not taken back, and its player saw no hint
+abbrev pub IsHandedOut : Identity → ℕ → Fed → Type 0
+IsHandedOut pool lane (feds.Window at lease) = (lease.pool ≡ pool) × (lease.lane ≡ lane) × (lease.live ≡ true) × (lease.taken ≡ false) × (lease.hinted ≡ false)
+IsHandedOut pool lane _ = Unit {0}
 
 -- the window that came back was out, unless the Feed is refused
 abbrev pub BringsBack : LanesState → ℕ → ℕ → Fed → Type 0

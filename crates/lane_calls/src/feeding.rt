@@ -20,7 +20,7 @@ ghost use Rattle.playing.specs.Frames.{HasRead, HoldsBytes, AreOnDisk, missing};
 ghost use Rattle.playing.specs.Held.{held_by};
 ghost use Rattle.playing.specs.Lanes.{next_window, IsBack};
 ghost use Rattle.lane_calls.specs.Lanes.{ShowsLanes, Stands, ArePledged};
-ghost use Rattle.lane_calls.specs.Answers.{IsServed, StaysUnfed, MayFeed, MayEnd, IsTold, HasBytes, BringsBack, HasStopped, KeepsLease};
+ghost use Rattle.lane_calls.specs.Answers.{IsServed, StaysUnfed, MayFeed, MayEnd, IsTold, HasBytes, IsHandedOut, BringsBack, HasStopped, KeepsLease};
 
 use crate::Fed;
 use frame_pool::Lease;
@@ -107,6 +107,7 @@ pub fn feed<D: Disk, L: Ledger>(
     ensures made { HasRead (missing shape.now.block lanes.old.frames.resident (next_window shape.now.block 0 (lane_of lanes.old.queues lane))) (D.told disk.old) (D.told disk.new) }
     ensures bytes { IsTrue (D.told disk.old).honest → (bytes : ℕ → ℕ → List ℕ) → AreOnDisk bytes shape.now (D.told disk.old).bytes parts.old.blocks.holders → HoldsBytes bytes lanes.old.frames → HoldsBytes bytes lanes.new.frames }
     ensures samples { IsTrue (D.told disk.old).honest → (bytes : ℕ → ℕ → List ℕ) → AreOnDisk bytes shape.now (D.told disk.old).bytes parts.old.blocks.holders → HoldsBytes bytes lanes.old.frames → IfOk result (HasBytes bytes shape.now.block 0 (lane_of lanes.old.queues lane)) }
+    ensures fresh { IfOk result (IsHandedOut lanes.old.frames.keeper.pool lane) }
     ensures err { OnErr result ((parts.new ≡ parts.old) × (lanes.new.queues ≡ lanes.old.queues)) }
     ensures stays { (fill : Spot → Tagged) (pledged : List (List Piece)) (takings : List ℕ) (made : ℕ) (b : Rebuilt) (s : State) → Stands fill pledged takings parts.old lanes.old made b s → OnErr result (Stands fill pledged takings parts.new lanes.new made b s) }
     ensures spare { parts.new.blocks.spare ≡ parts.old.blocks.spare }
@@ -152,6 +153,7 @@ pub fn serve<D: Disk, L: Ledger>(
     ensures made { HasRead (missing shape.now.block lanes.old.frames.resident (next_window shape.now.block heard (lane_of lanes.old.queues lane))) (D.told disk.old) (D.told disk.new) }
     ensures bytes { IsTrue (D.told disk.old).honest → (bytes : ℕ → ℕ → List ℕ) → AreOnDisk bytes shape.now (D.told disk.old).bytes parts.old.blocks.holders → HoldsBytes bytes lanes.old.frames → HoldsBytes bytes lanes.new.frames }
     ensures samples { IsTrue (D.told disk.old).honest → (bytes : ℕ → ℕ → List ℕ) → AreOnDisk bytes shape.now (D.told disk.old).bytes parts.old.blocks.holders → HoldsBytes bytes lanes.old.frames → IfOk result (HasBytes bytes shape.now.block heard (lane_of lanes.old.queues lane)) }
+    ensures fresh { IfOk result (IsHandedOut lanes.old.frames.keeper.pool lane) }
     ensures err { OnErr result ((parts.new ≡ parts.old) × (lanes.new.queues ≡ lanes.old.queues) × (lease.new ≡ (if lease.old.taken then lease.old else spent lease.old))) }
     ensures stays { (fill : Spot → Tagged) (pledged : List (List Piece)) (takings : List ℕ) (made : ℕ) (b : Rebuilt) (s : State) → Stands fill pledged takings parts.old lanes.old made b s → OnErr result (Stands fill pledged takings parts.new lanes.new made b s) }
     ensures spare { parts.new.blocks.spare ≡ parts.old.blocks.spare }

@@ -8,7 +8,7 @@ ghost use Rattle.playing.specs.Frames.{HasRead, missing};
 ghost use Rattle.frame_pool.specs.Pool.{spent};
 ghost use Rattle.listening.specs.Looks.{Looked};
 ghost use Rattle.playing.specs.Lanes.{next_window, window_at};
-ghost use Rattle.lane_calls.specs.Answers.{HasStopped};
+ghost use Rattle.lane_calls.specs.Answers.{IsHandedOut, HasStopped};
 ghost use Rattle.voice_store.specs.Feeding.{told, HasSamples};
 ghost use Rattle.voice_store.specs.Stood.{Stood, last_of};
 ghost use Rattle.voice_store.specs.Facts.{IsFault, entry_of};
@@ -55,6 +55,7 @@ impl Inside {
         ensures cause { IfOk result (λ fed. IsFault (told fed) → HasRisen (D.told disk.old).faults (D.told disk.new).faults) }
         ensures made { HasRead (missing self.old.journal.shape.block self.old.lanes.frames.resident (next_window self.old.journal.shape.block 0 (lane_of self.old.lanes.queues lane))) (D.told disk.old) (D.told disk.new) }
         ensures samples { IsTrue (D.told disk.old).honest → (first : State) (t0 : ℕ) → Stood first t0 (D.told disk.old) self.old → IfOk result (HasSamples (last_of first self.old) lane) }
+        ensures fresh { IfOk result (IsHandedOut self.old.lanes.frames.keeper.pool lane) }
         ensures tapes { self.new.tapes ≡ self.old.tapes }
         ensures pool { self.new.lanes.frames.keeper.pool ≡ self.old.lanes.frames.keeper.pool }
         ensures stood { (first : State) (t0 : ℕ) → Stood first t0 (D.told disk.old) self.old → Stood first t0 (D.told disk.new) self.new }
@@ -91,6 +92,7 @@ impl Inside {
         ensures cause { IfOk result (λ fed. IsFault (told fed) → HasRisen (D.told disk.old).faults (D.told disk.new).faults) }
         ensures looks { Looked 4 (D.told disk.old) (D.told disk.new) }
         ensures samples { IsTrue (D.told disk.old).honest → (first : State) (t0 : ℕ) → Stood first t0 (D.told disk.old) self.old → IfOk result (HasSamples (last_of first self.old) lane) }
+        ensures fresh { IfOk result (IsHandedOut self.old.lanes.frames.keeper.pool lane) }
         ensures tapes { self.new.tapes ≡ self.old.tapes }
         ensures pool { self.new.lanes.frames.keeper.pool ≡ self.old.lanes.frames.keeper.pool }
         ensures stood { (first : State) (t0 : ℕ) → Stood first t0 (D.told disk.old) self.old → Stood first t0 (D.told disk.new) self.new }
@@ -136,6 +138,7 @@ impl Inside {
         ensures cause { IfOk result (λ fed. IsFault (told fed) → HasRisen (D.told disk.old).faults (D.told disk.new).faults) }
         ensures made { HasRead (missing self.old.journal.shape.block self.old.lanes.frames.resident (next_window self.old.journal.shape.block heard (lane_of self.old.lanes.queues lease.old.lane))) (D.told disk.old) (D.told disk.new) }
         ensures samples { IsTrue (D.told disk.old).honest → (first : State) (t0 : ℕ) → Stood first t0 (D.told disk.old) self.old → IfOk result (HasSamples (last_of first self.old) lease.old.lane) }
+        ensures fresh { IfOk result (IsHandedOut self.old.lanes.frames.keeper.pool lease.old.lane) }
         ensures tapes { self.new.tapes ≡ self.old.tapes }
         ensures pool { self.new.lanes.frames.keeper.pool ≡ self.old.lanes.frames.keeper.pool }
         ensures stood { (first : State) (t0 : ℕ) → Stood first t0 (D.told disk.old) self.old → Stood first t0 (D.told disk.new) self.new }
@@ -185,6 +188,7 @@ impl Inside {
         ensures cause { IfOk result (λ fed. IsFault (told fed) → HasRisen (D.told disk.old).faults (D.told disk.new).faults) }
         ensures looks { Looked 4 (D.told disk.old) (D.told disk.new) }
         ensures samples { IsTrue (D.told disk.old).honest → (first : State) (t0 : ℕ) → Stood first t0 (D.told disk.old) self.old → IfOk result (HasSamples (last_of first self.old) lease.old.lane) }
+        ensures fresh { IfOk result (IsHandedOut self.old.lanes.frames.keeper.pool lease.old.lane) }
         ensures tapes { self.new.tapes ≡ self.old.tapes }
         ensures pool { self.new.lanes.frames.keeper.pool ≡ self.old.lanes.frames.keeper.pool }
         ensures stood { (first : State) (t0 : ℕ) → Stood first t0 (D.told disk.old) self.old → Stood first t0 (D.told disk.new) self.new }

@@ -12,7 +12,7 @@ ghost use Rattle.voice_model.specs.Room.{free};
 ghost use Rattle.voice_model.specs.Valid.{InRange};
 ghost use Rattle.voice_model.specs.Image.{Reading, reading, opened_from};
 ghost use Rattle.frame_pool.specs.Pool.{spent};
-ghost use Rattle.lane_calls.specs.Answers.{HasStopped};
+ghost use Rattle.lane_calls.specs.Answers.{IsHandedOut, HasStopped};
 ghost use Rattle.voice_store.specs.Feeding.{told, HasSamples};
 ghost use Rattle.voice_store.specs.Shown.{Keeps, HasRoomFor, history_of, tapes_in, pool_of, state_of};
 ghost use Rattle.voice_store.specs.Stood.{ShowsState};
@@ -146,6 +146,8 @@ impl<D: Disk> Store<D> {
         ensures state { (first : State) → Keeps D.told first self.old → Keeps D.told first self.new }
         // The lease of a window has the samples of the first job's passage, from where it begins, whatever was removed, freed or recorded meanwhile.
         ensures samples { IsTrue (D.told self.old.disk).honest → (first : State) → Keeps D.told first self.old → IfOk result (HasSamples (state_of first self.old) lane) }
+        // The lease of a window is of this store's pool and of the lane; it can be brought back.
+        ensures fresh { IfOk result (IsHandedOut (pool_of self.old) lane) }
         ensures cause { IfOk result (λ fed. IsFault (told fed) → HasRisen (D.told self.old.disk).faults (D.told self.new.disk).faults) }
         // It reads at most four blocks, and changes no byte.
         ensures looks { Looked 4 (D.told self.old.disk) (D.told self.new.disk) }
@@ -165,6 +167,7 @@ impl<D: Disk> Store<D> {
         ensures err { OnErr result (history_of self.new ≡ history_of self.old) }
         ensures state { (first : State) → Keeps D.told first self.old → Keeps D.told first self.new }
         ensures samples { IsTrue (D.told self.old.disk).honest → (first : State) → Keeps D.told first self.old → IfOk result (HasSamples (state_of first self.old) lease.old.lane) }
+        ensures fresh { IfOk result (IsHandedOut (pool_of self.old) lease.old.lane) }
         // A lease whose player saw the hint is that of a job that is stopped.
         ensures hinted { lease.old.taken ≡ false → lease.old.hinted ≡ true → IfOk result HasStopped }
         ensures lease { (lease.new ≡ lease.old) ⊎ (lease.new ≡ spent lease.old) }

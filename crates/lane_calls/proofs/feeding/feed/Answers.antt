@@ -3,7 +3,7 @@ use Rattle.voice_units.specs.declared.shapes.Shape.{Shape}
 use Rattle.lane_calls.specs.declared.outcomes.Fed.TheVariants as feds
 use Rattle.play_queue.specs.Queued.{lane_of}
 use Rattle.lane_calls.proofs.Addressed.{next_addresses}
-use Rattle.lane_calls.proofs.Served.{may_end, feed_served, told_bytes, told_fault, err_stays, nothing_read, apart, on_err}
+use Rattle.lane_calls.proofs.Served.{may_end, feed_served, told_bytes, told_fresh, told_fault, err_stays, nothing_read, apart, on_err}
 use Rattle.lane_calls.proofs.feeding.feed.Goals as goal
 
 pub returns-in-Some-clause-served : goal.returns-in-Some-clause-served
@@ -45,3 +45,6 @@ returns-in_err-turned-clause-stays g c = λ fill pledged takings made b s st.
     let least = c.args.shape.now.conditions.some_block in
     on_err c.from_residual.result (err_stays fill pledged takings c.args.parts.now c.args.lanes.now c.feed.new.self made b s c.args.shape.now.block 0 c.args.lane st c.requires.block (omega (arith, least))
     (λ e. apart (c.in_err-turned.ensures.spare (inl e))) c.in_err-turned.ensures.err.0 c.feed.ensures.frames)
+
+pub returns-clause-fresh : goal.returns-clause-fresh
+returns-clause-fresh g c = told_fresh c.args.shape.now.block 0 c.args.lane _ c.args.parts.now c.tell.new.parts c.args.lanes.now c.feed.new.self c.tell.new.lanes c.tell.result c.tell.ensures.told c.in_ok-turned.ensures.fed

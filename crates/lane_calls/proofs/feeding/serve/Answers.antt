@@ -4,7 +4,7 @@ use Rattle.play_queue.specs.Queued.{lane_of}
 use Rattle.playing.specs.Lanes.{next_window}
 use Rattle.lane_calls.specs.declared.outcomes.Fed.TheVariants as feds
 use Rattle.lane_calls.proofs.Addressed.{next_addresses}
-use Rattle.lane_calls.proofs.Served.{may_end, feed_served, told_bytes, told_fault, told_back, told_stop, err_forgot, nothing_read}
+use Rattle.lane_calls.proofs.Served.{may_end, feed_served, told_bytes, told_fresh, told_fault, told_back, told_stop, err_forgot, nothing_read}
 use Rattle.lane_calls.proofs.feeding.serve.Goals as goal
 
 pub returns-in-Some-clause-served : goal.returns-in-Some-clause-served
@@ -54,3 +54,6 @@ pub returns-in_default-serve-clause-stays : goal.returns-in_default-serve-clause
 returns-in_default-serve-clause-stays g c = λ fill pledged takings made b s st.
     err_forgot fill pledged takings c.args.parts.now c.args.lanes.now c.serve.new.self c.forget_unused.new.self made b s c.args.shape.now.block c.args.lane (next_window c.args.shape.now.block c.args.heard (lane_of c.args.lanes.now.queues c.args.lane)) st
     c.in_default-serve.ensures.err.0 c.serve.ensures.frames c.forget_unused.ensures.queues c.forget_unused.ensures.forgets c.forget_unused.ensures.used
+
+pub returns-clause-fresh : goal.returns-clause-fresh
+returns-clause-fresh g c = told_fresh c.args.shape.now.block c.args.heard c.args.lane _ c.args.parts.now c.tell.new.parts c.args.lanes.now c.serve.new.self c.tell.new.lanes c.tell.result c.tell.ensures.told c.in-Ok.ensures.fed
