@@ -1,12 +1,14 @@
 //! A store in another program: two callers on threads share one, over a disk in memory. docs/EMBEDDING.md goes through it.
 #![tactic(auto)]
 
+mod hearing;
 mod opening;
 mod sharing;
 #[cfg(test)]
 mod tests;
 mod whole;
 
+pub use hearing::hear;
 pub use opening::{new_disk, open};
 pub use sharing::record_both;
-pub use whole::exchange;
+pub use whole::{echo, exchange};

@@ -1,4 +1,4 @@
-use crate::exchange;
+use crate::{echo, exchange};
 use std::alloc::Global;
 use std::process::Abort;
 use std::sync::Arc;
@@ -12,6 +12,20 @@ fn two_tapes(alloc: Global) -> Result<Arc<Tapes, Global>, Fail> {
     for tape in TAPES {
         tapes.push(tape.to_vec(alloc)?)?;
     }
+    match Arc::new(alloc, Tapes::new(tapes)) {
+        Ok(tapes) => Ok(tapes),
+        Err(_) => Err(Fail::new("no memory")),
+    }
+}
+
+// A tape of samples that count from 0.
+fn one_tape(alloc: Global, len: u8) -> Result<Arc<Tapes, Global>, Fail> {
+    let mut samples = Vec::new(alloc);
+    for k in 0..len {
+        samples.push(k)?;
+    }
+    let mut tapes = Vec::new(alloc);
+    tapes.push(samples)?;
     match Arc::new(alloc, Tapes::new(tapes)) {
         Ok(tapes) => Ok(tapes),
         Err(_) => Err(Fail::new("no memory")),
@@ -53,5 +67,24 @@ fn two_callers_share_a_store(rt: HostRuntime) -> Result<(), Fail> {
     assert_eq!(rt; history.len(), 4);
     assert_spoke(&rt, &history, 1);
     assert_spoke(&rt, &history, 2);
+    Ok(())
+}
+
+// A hundred samples lie in 13 blocks, and are heard in four windows.
+#[test]
+fn a_passage_is_heard(rt: HostRuntime) -> Result<(), Fail> {
+    let tapes = one_tape(rt.alloc(), 100)?;
+    for len in [0, 1, 8, 32, 33, 100] {
+        let Some(heard) = echo(rt.alloc(), &tapes, len) else {
+            return Err(Fail::new("not heard"));
+        };
+        assert_eq!(rt; heard.len(), len as usize);
+        assert!(rt;
+            heard
+                .iter()
+                .enumerate()
+                .all(|(k, &sample)| usize::from(sample) == k)
+        );
+    }
     Ok(())
 }
