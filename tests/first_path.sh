@@ -14,6 +14,8 @@ printf '1 record hello.ul\n17 record hello.ul\n' >"$work/second.vs"
 printf '1 record hello.ul\n2 record gone.ul\n' >"$work/lost.vs"
 printf '16 record hello.ul\n2 record hello.ul\n' >"$work/two.vs"
 printf '1 record -x\n' >"$work/dash.vs"
+printf '# \303\n1 record \303\n' >"$work/byte.vs"
+printf '1 a = length 1\n' >"$work/bind.vs"
 
 check 'the first script' 0 '1 1 record: rope 1 length 20
 ' '' run first.vs
@@ -51,11 +53,15 @@ check 'a missing script' 4 '' 'voice: no file gone
 ' run gone
 check 'a missing sample file' 4 '' 'voice: no file gone.ul
 ' run lost.vs
-check 'an unknown verb' 3 '' 'voice: line 1 of the script is refused
+check 'an unknown verb' 3 '' 'voice: line 1 of the script is refused: no known verb where one belongs
 ' run sing.vs
-check 'caller 17' 3 '' 'voice: line 2 of the script is refused
+check 'a byte above ASCII' 3 '' 'voice: line 2 of the script is refused: a byte other than printed ASCII, space and tab
+' run byte.vs
+check 'a bind of a length' 3 '' 'voice: line 1 of the script is refused: what is bound is no variable, or the verb binds nothing
+' run bind.vs
+check 'caller 17' 3 '' 'voice: line 2 of the script is refused: no caller from 1 to 16 at its beginning
 ' run second.vs
-check 'a bad file name' 3 '' 'voice: line 1 of the script is refused
+check 'a bad file name' 3 '' 'voice: line 1 of the script is refused: wrong words behind the verb
 ' run dash.vs
 
 # A script of 65,535 lines runs, though the journal is full before its end; one more line is refused.
@@ -63,7 +69,7 @@ awk 'BEGIN { for (i = 0; i < 65535; i++) print "1 record empty.vs" }' >"$work/lo
 (cat "$work/long.vs" && echo '1 record empty.vs') >"$work/longer.vs"
 rm -f "$work/voice.disk"
 expect '65,535 lines' sh -c "cd '$work' && [ \"\$('$top/voice' run long.vs | tail -n 1)\" = '65535 1 record: no journal-full 1048572 1048559' ]"
-check '65,536 lines' 3 '' 'voice: line 65536 of the script is refused
+check '65,536 lines' 3 '' 'voice: line 65536 of the script is refused: more than 65535 lines
 ' run longer.vs
 
 # A full standard output, and one that is closed by its reader.
@@ -91,7 +97,7 @@ expect 'help is a page' [ "$("$top/voice" --help | wc -l)" -le 40 ]
 
 # The lines that help shows are a script.
 "$top/voice" --help | sed -n 's/^  CALLER .*  \([12] .*\)$/\1/p' >"$work/help.vs"
-expect 'help shows thirteen lines' [ "$(wc -l <"$work/help.vs")" = 13 ]
+expect 'help shows fifteen lines' [ "$(wc -l <"$work/help.vs")" = 15 ]
 rm -f "$work/voice.disk"
 expect 'a run of which does all' sh -c "cd '$work' && ! '$top/voice' run help.vs | grep -q ': no'"
 expect 'version' [ "$("$top/voice" --version)" = 'voice 0.1.0' ]

@@ -68,4 +68,44 @@ done
 expect "twenty kills ($whole)" [ "$whole" = yes ]
 awk -v n="$last" 'BEGIN { for (i = 1; i <= n; i++) print "1 length " i }' >"$work/all.vs"
 expect 'all ropes are there' sh -c "cd '$work' && [ \"\$('$top/voice' run all.vs | grep -c 'number')\" = '$last' ]"
+
+# Killed at thirty moments while eight callers record, keep, play, forget and sweep: each time the disk opens, an audit tells of no damage, the number never falls, and what is kept is heard as it was recorded.
+awk 'BEGIN { for (i = 0; i < 40; i++) for (c = 1; c <= 8; c++) {
+    print c " a = record hello.ul"
+    print c " retain held k" c "." i % 3 " a -"
+    print c " play " c - 1 " a 0 20 out" c
+    print c " advance " i * 10
+    print c " sweep 4"
+    print c " forget held k" c "." (i + 1) % 3
+} }' >"$work/busy.vs"
+awk 'BEGIN { print "1 record hello.ul"; for (c = 1; c <= 8; c++) for (i = 0; i < 3; i++) {
+    print "1 v" c i " = lookup held k" c "." i
+    print "1 play 0 v" c i " 0 20 kept" c i
+} }' >"$work/kept.vs"
+voice format --blocks 1000 --area 65536 --grace 20
+last=0
+heard=0
+whole=yes
+for k in $(seq 1 30); do
+    (cd "$work" && exec "$top/voice" run busy.vs --threads) >"$work/.out" 2>"$work/.err" &
+    pid=$!
+    sleep "0.$(awk -v k="$k" 'BEGIN { srand(k); printf "%03d", rand() * 500 }')"
+    kill -9 "$pid" 2>/dev/null || true
+    wait "$pid" 2>/dev/null || true
+    voice audit >/dev/null || whole="run $k leaves damage"
+    rm -f "$work"/kept??
+    text=$(voice run kept.vs) || whole="run $k ended badly"
+    next=${text#*rope }
+    next=${next%% *}
+    [ "$next" -gt "$last" ] || whole="run $k: rope $next after $last"
+    last=$next
+    [ "$(printf '%s\n' "$text" | grep -c 'found')" = "$(ls "$work" | grep -c '^kept..$')" ] || whole="run $k: a kept rope is not heard"
+    for file in "$work"/kept??; do
+        [ -e "$file" ] || continue
+        heard=$((heard + 1))
+        cmp -s "$file" "$work/hello.ul" || whole="run $k: other samples"
+    done
+done
+expect "thirty kills beside plays and sweeps ($whole)" [ "$whole" = yes ]
+expect "after which kept ropes were heard ($heard)" [ "$heard" -gt 30 ]
 finish

@@ -21,7 +21,7 @@ pub fn open_file<R: Files<File = File>>(rt: &R, size: u64) -> io::Result<FileDis
     let Ok(name) = Name::new(FILE.as_bytes()) else {
         return Err(io::Error::from(AllocError));
     };
-    match FileDisk::open(rt, &name, size) {
+    match FileDisk::open_or_make(rt, &name, size) {
         Ok(disk) => Ok(disk),
         Err(_) => Err(io::Error::from(AllocError)),
     }

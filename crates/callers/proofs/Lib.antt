@@ -1,5 +1,10 @@
 pub mod Built
+pub mod Giving
+pub mod Hearing
 pub mod Lined
 pub mod Following
+pub mod Ready
 pub mod Rows
 pub mod Sharing
+pub mod SoFar
+pub mod Telling

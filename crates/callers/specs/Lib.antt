@@ -1,3 +1,4 @@
 pub mod Lines
+pub mod Passed
 pub mod Seats
 pub mod Visits

@@ -1,42 +1,33 @@
 -- What one caller's lines add to its entries.
---     lines_of_caller caller lines      those of the lines that are the caller's
---     LineRan, LineBound      what one line adds, and what it sets
---     LinePassed      the same, or the line is another caller's
+--     IsRunnable samples line      what running a line relies on
+--     LineBegan      a line added the first of its entries
 --     Followed tapes lines k caller old new      the caller gained the entries of its lines among the first k
+--     FollowedInto tapes lines k caller old new      the same, and perhaps the first entries of the next line
 --     Stopped tapes lines caller old new      the caller stopped at a line of its own
-use Rattle.std.specs.Prelude.{ℕ, ◌+◌, List, [], ◌++◌, ◌≡◌, ◌⊎◌, ◌==◌, Some, map, filter, take, slice_get}
+use Rattle.std.specs.Prelude.{ℕ, List, [], ◌++◌, ◌≡◌, Some, IsTrue, map, take, slice_get}
 use Rattle.voice_model.specs.declared.calls.Entry.{Entry}
-use Rattle.voice_model.specs.Follows.{Binding, Does, Follows, variables_after}
+use Rattle.voice_model.specs.Follows.{Binding, Follows}
 use Rattle.script_lang.specs.declared.scripts.Line.{Line}
-use Rattle.script_lang.specs.Errands.{errand_of, SameValues}
+use Rattle.script_lang.specs.Errands.{errand_of, HasTape, HasFile, HasItsRopes, IsInItsRange}
+use Rattle.script_lang.specs.Grammar.{verb_name, IsBound}
+use Rattle.script_lang.specs.Verbs.{is_built_verb}
+use Rattle.served_files.specs.Lines.{lines_of_caller, DoesLine, BeginsLines}
 
-abbrev pub lines_of_caller : ℕ → List Line → List Line
-lines_of_caller caller lines = filter (λ line. line.caller == caller) lines
+-- what running a line relies on, over so many tapes: its verb is one that callers run, its tape, its file and its ropes are there where it needs them, it binds a variable only where it may, and its numbers are in their ranges
+pub record IsRunnable (samples : ℕ) (line : Line) : Type 0 where
+  pub verb : IsTrue (is_built_verb (verb_name line.verb))
+  pub tape : HasTape samples line.verb
+  pub file : HasFile line.verb line.file
+  pub bind : IsBound line.verb line.bind
+  pub ropes : HasItsRopes line.verb
+  pub range : IsInItsRange line.verb
 
--- the entries of one line, as its caller's variables stand
-abbrev pub DoesLine : List (List ℕ) → List Binding → Line → List Entry → Type 0
-DoesLine tapes variables line own = Does ((errand_of tapes line).asks variables) (errand_of tapes line).serves own
-
--- a line added its entries, each once
-pub record LineRan (tapes : List (List ℕ)) (line : Line) (variables : List Binding) (old new : List Entry) : Type 0 where
+-- a line added the first of its entries, or all of them: more may be missing
+pub record LineBegan (tapes : List (List ℕ)) (line : Line) (variables : List Binding) (old new : List Entry) : Type 0 where
   pub own : List Entry
+  pub more : List Entry
   pub added : new ≡ old ++ own
-  pub does : DoesLine tapes variables line own
-
--- and its caller's variables stand as its reply sets them
-abbrev pub LineBound : List (List ℕ) → Line → List Binding → List Binding → List Entry → List Entry → Type 0
-LineBound tapes line variables new_variables old new = (ran : LineRan tapes line variables old new) × SameValues new_variables (variables_after line.bind ran.own variables)
-
--- a line of another caller, which nothing came of
-pub record IsOthers (caller : ℕ) (line : Line) (old_variables new_variables : List Binding) (old new : List Entry) : Type 0 where
-  pub other : line.caller ≡ caller → ⊥
-  pub variables : new_variables ≡ old_variables
-  pub entries : new ≡ old
-
--- a line of this caller that ran, or one of another caller
-abbrev pub LinePassed : ℕ → List (List ℕ) → Line → List Binding → List Binding → List Binding → List Entry → List Entry → Type 0
-LinePassed caller tapes line variables old_variables new_variables old new =
-    IsOthers caller line old_variables new_variables old new ⊎ ((line.caller ≡ caller) × LineBound tapes line variables new_variables old new)
+  pub does : DoesLine tapes variables line (own ++ more)
 
 -- the caller gained the entries of its lines among the first k, in order, each once
 pub record Followed (tapes : List (List ℕ)) (lines : List Line) (k caller : ℕ) (old new : List Entry) : Type 0 where
@@ -44,10 +35,16 @@ pub record Followed (tapes : List (List ℕ)) (lines : List Line) (k caller : �
   pub gained : new ≡ old ++ own
   pub follows : Follows [] (map (errand_of tapes) (lines_of_caller caller (take k lines))) own
 
--- the caller stopped at a line of its own: it gained the entries of its lines before that one, and perhaps that one's
+-- the same, and perhaps the first entries of the next line
+pub record FollowedInto (tapes : List (List ℕ)) (lines : List Line) (k caller : ℕ) (old new : List Entry) : Type 0 where
+  pub own : List Entry
+  pub gained : new ≡ old ++ own
+  pub begins : BeginsLines tapes lines caller k own
+
+-- the caller stopped at a line of its own: it gained the entries of its lines before that one, and perhaps some of that one's, or all
 pub record Stopped (tapes : List (List ℕ)) (lines : List Line) (caller : ℕ) (old new : List Entry) : Type 0 where
   pub number : ℕ
   pub line : Line
   pub there : slice_get lines number ≡ Some line
   pub is_own : line.caller ≡ caller
-  pub ran : Followed tapes lines number caller old new ⊎ Followed tapes lines (number + 1) caller old new
+  pub ran : FollowedInto tapes lines number caller old new

@@ -8,4 +8,5 @@ mod seats;
 mod threads;
 
 pub use seats::Outcome;
+pub use served_files::Heard;
 pub use threads::run_threads;

@@ -5,7 +5,7 @@ ghost use Rattle.script_lang.specs.Verbs.{is_built_verb};
 ghost use Rattle.script_lang.specs.Whole.{IsWhole};
 ghost use Rattle.turnstile.specs.Passes.{AreOf};
 ghost use Rattle.voice_server.specs.Served.{tapes_of};
-ghost use Rattle.callers.specs.Seats.{IsReady, HasRun, EachRan, SomeStopped};
+ghost use Rattle.callers.specs.Seats.{IsReadyPass, IsReady, HasRun, EachRan, SomeStopped};
 
 use crate::caller::run_caller;
 use crate::places::Places;
@@ -35,7 +35,7 @@ fn run_one<R: Wait, D: Disk, G: Gate>(
     requires tapes { tapes_of server.now ≡ tapes.now }
     requires lines { IsWhole is_built_verb script.now }
     requires samples { length tapes.now ≡ length script.now.samples }
-    ensures { HasRun tapes.now script.now.lines server.now runner.old runner.new }
+    ensures { HasRun D.told tapes.now script.now.lines server.now runner.old runner.new }
 {
     runner.done = run_caller(
         rt,
@@ -44,6 +44,7 @@ fn run_one<R: Wait, D: Disk, G: Gate>(
         &mut runner.pass,
         script,
         tapes,
+        &mut runner.heard,
         gate,
         places,
     );
@@ -65,14 +66,26 @@ fn run_all<R: Threads + Wait + Sync, D: Disk, G: Gate>(
     requires tapes { tapes_of server.now ≡ tapes.now }
     requires lines { IsWhole is_built_verb script.now }
     requires samples { length tapes.now ≡ length script.now.samples }
-    ensures { (i : ℕ) (d : _) → i < length runners.old → HasRun tapes.now script.now.lines server.now (slice_index_or runners.old i d) (slice_index_or runners.new i d) }
+    ensures { (i : ℕ) (d : _) → i < length runners.old → HasRun D.told tapes.now script.now.lines server.now (slice_index_or runners.old i d) (slice_index_or runners.new i d) }
 {
     let threads = runners.len();
     let run = move |_: usize, runner: &mut Runner<Pass<Standing<D>>>|
         requires { IsReady server.now runner.now × (tapes_of server.now ≡ tapes.now) × IsWhole is_built_verb script.now × (length tapes.now ≡ length script.now.samples) }
-        ensures { HasRun tapes.entry.now script.entry.now.lines server.entry.now runner.entry.now runner.exit.now }
+        ensures { HasRun D.told tapes.entry.now script.entry.now.lines server.entry.now runner.entry.now runner.exit.now }
     { run_one(rt, alloc, server, runner, script, tapes, gate, places) };
     thread::for_each_mut(rt, runners, threads, &run);
+}
+
+// There was no memory to begin.
+fn none_began<D: Disk>(alloc: Global, passes: Vec<Pass<Standing<D>>>) -> Outcome<D>
+    ensures passes { result.passes.items ≡ passes.items }
+    ensures memory { result.memory ≡ false }
+{
+    Outcome {
+        passes,
+        heard: Vec::new(alloc),
+        memory: false,
+    }
 }
 
 /// Runs each caller's lines in order, on a thread of its own, or on this one where none could be made. A caller that meets want of memory stops; where there is no memory to begin, none begins.
@@ -86,22 +99,22 @@ pub fn run_threads<R: Threads + Wait + Sync, D: Disk, G: Gate>(
     gate: &G,
 ) -> Outcome<D>
     requires count { 0 < length passes.items }
-    requires of { AreOf server.now.turnstile passes.items }
+    requires ready { All (IsReadyPass server.now) passes.items }
     requires tapes { tapes_of server.now ≡ tapes.now }
     requires lines { IsWhole is_built_verb script.now }
     requires samples { length tapes.now ≡ length script.now.samples }
     ensures of { AreOf server.now.turnstile result.passes.items }
-    ensures each { EachRan tapes.now script.now.lines result.memory passes.items result.passes.items }
+    ensures each { EachRan D.told tapes.now script.now.lines server.now result.memory passes.items result.passes.items result.heard.items }
     // Where there was no memory, none began, or one stopped.
     ensures memory { result.memory ≡ false → (result.passes.items ≡ passes.items) ⊎ SomeStopped tapes.now script.now.lines passes.items result.passes.items }
 {
-    let Ok(mut runners) = Vec::with_capacity(alloc, passes.len()) else {
-        return Outcome {
-            passes,
-            memory: false,
-        };
+    let Ok(mut heard) = Vec::with_capacity(alloc, passes.len()) else {
+        return none_began(alloc, passes);
     };
-    line_up(&mut passes, &mut runners);
+    let Ok(mut runners) = Vec::with_capacity(alloc, passes.len()) else {
+        return none_began(alloc, passes);
+    };
+    line_up(alloc, &mut passes, &mut runners);
     // A gate may hold a caller back until another one comes to some line, so nobody may wait for a place meanwhile.
     let places = Places::new(gate.is_open());
     run_all(
@@ -114,6 +127,10 @@ pub fn run_threads<R: Threads + Wait + Sync, D: Disk, G: Gate>(
         gate,
         &places,
     );
-    let memory = hand_back(runners, &mut passes);
-    Outcome { passes, memory }
+    let memory = hand_back(runners, &mut passes, &mut heard);
+    Outcome {
+        passes,
+        heard,
+        memory,
+    }
 }

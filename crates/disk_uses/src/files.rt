@@ -14,7 +14,7 @@ fn disk_in<R: Files<File = File> + Abort>(rt: &R, name: &[u8]) -> FileDisk {
     let Ok(name) = Name::new(name) else {
         panic!(rt; "no name");
     };
-    let Ok(disk) = FileDisk::open(rt, &name, 4096) else {
+    let Ok(disk) = FileDisk::open_or_make(rt, &name, 4096) else {
         panic!(rt; "not opened");
     };
     assert!(rt; disk.size() == 4096);

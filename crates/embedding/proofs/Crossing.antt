@@ -1,5 +1,5 @@
 -- What callers on threads need: that a closure over three captures may be shared, and that passes come back from a slice.
-use Rattle.std.proofs.Common.{◌≡◌, ◌≤◌, ◌∙◌, ℕ, suc, List, [], ◌∷◌, ◌++◌, length, take, drop, refl, ap, arith, append-nil}
+use Rattle.std.proofs.Common.{◌≡◌, ◌∙◌, ℕ, List, [], ◌∷◌, ◌++◌, length, take, drop, ap, arith, append-nil}
 use Rattle.std.proofs.lemmas.List.{take_all, drop_all}
 use mir.Syntax.{Sym}
 use denote.RattleType.{RattleType}

@@ -4,6 +4,7 @@
 mod hearing;
 mod opening;
 mod sharing;
+mod telephone;
 #[cfg(test)]
 mod tests;
 mod whole;
@@ -11,4 +12,5 @@ mod whole;
 pub use hearing::hear;
 pub use opening::{new_disk, open};
 pub use sharing::record_both;
-pub use whole::{echo, exchange};
+pub use telephone::play_back;
+pub use whole::{call_up, echo, exchange};

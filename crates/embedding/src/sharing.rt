@@ -86,5 +86,5 @@ pub fn record_both<R: Threads + Wait + Sync, D: Disk>(
         Err((_none, store)) => return store,
     };
     speak_all(rt, &server, passes.as_mut_slice(), tapes);
-    server.close(passes)
+    server.close(passes, Vec::new(alloc))
 }

@@ -1,4 +1,4 @@
-use crate::{echo, exchange};
+use crate::{call_up, echo, exchange};
 use std::alloc::Global;
 use std::process::Abort;
 use std::sync::Arc;
@@ -86,5 +86,22 @@ fn a_passage_is_heard(rt: HostRuntime) -> Result<(), Fail> {
                 .all(|(k, &sample)| usize::from(sample) == k)
         );
     }
+    Ok(())
+}
+
+// 64 samples come in two windows, each of which is copied ten samples at a time.
+#[test]
+fn a_telephone_hears_its_job(rt: HostRuntime) -> Result<(), Fail> {
+    let tapes = one_tape(rt.alloc(), 64)?;
+    let Some(heard) = call_up(&rt, rt.alloc(), &tapes) else {
+        return Err(Fail::new("not heard"));
+    };
+    assert_eq!(rt; heard.len(), 64);
+    assert!(rt;
+        heard
+            .iter()
+            .enumerate()
+            .all(|(k, &sample)| usize::from(sample) == k)
+    );
     Ok(())
 }

@@ -3,6 +3,7 @@
 use crate::hearing::hear;
 use crate::opening::{new_disk, open};
 use crate::sharing::record_both;
+use crate::telephone::play_back;
 use std::alloc::Global;
 use std::sync::{Arc, Wait};
 use std::thread::Threads;
@@ -48,4 +49,17 @@ pub fn echo(alloc: Global, tapes: &Arc<Tapes, Global>, len: u32) -> Option<Vec<u
     let heard = hear(alloc, &mut store, 1, Lane(0));
     let (_disk, _history) = store.close();
     heard.ok()
+}
+
+/// What a telephone hears of the first 64 samples of the first tape, through a server of a new disk; none where there was no memory for the disk or the store.
+pub fn call_up<R: Wait>(rt: &R, alloc: Global, tapes: &Arc<Tapes, Global>) -> Option<Vec<u8>> {
+    let disk = new_disk(alloc)?;
+    let Ok(shared) = Arc::try_clone(tapes) else {
+        return None;
+    };
+    let store = open(alloc, disk, shared)?;
+    let mut heard = Vec::new(alloc);
+    let store = play_back(rt, alloc, store, tapes, &mut heard);
+    let (_disk, _history) = store.close();
+    Some(heard)
 }

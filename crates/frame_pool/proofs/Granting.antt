@@ -1,8 +1,5 @@
 -- What a grant and a return come to, over all their steps.
-use Rattle.std.proofs.Common.{◌≡◌, ℕ, zero, suc, ◌+◌, ◌*◌, ◌≤◌, ◌<◌, List, [], ◌∷◌, length, set, true, false, refl, sym, ap, ◌∙◌, arith, length-append, suc-mul}
-use Rattle.std.specs.List.{range_with_len}
-use Rattle.std.proofs.lemmas.List.{length-map}
-use Rattle.std.proofs.lemmas.List.FromFn.{length-range_with_len}
+use Rattle.std.proofs.Common.{◌≡◌, ℕ, zero, suc, ◌+◌, ◌*◌, ◌≤◌, ◌<◌, List, [], ◌∷◌, length, set, true, false, refl, sym, ap, ◌∙◌, arith, suc-mul}
 use Rattle.std.proofs.lemmas.List.Sums.{sum_by-cons}
 use Rattle.std.proofs.lemmas.Grind.{get_or-set_at}
 use Rattle.atomic_table.specs.declared.shared.Seat.{Seat}
@@ -14,7 +11,7 @@ use Rattle.frame_pool.specs.declared.views.LaneState.{LaneState}
 use Rattle.frame_pool.specs.declared.views.KeeperView.{KeeperView}
 use Rattle.frame_pool.specs.declared.views.LeaseView.{LeaseView}
 use Rattle.frame_pool.specs.declared.views.View.{View}
-use Rattle.frame_pool.specs.Words.{byte_of, places, bytes_at, total}
+use Rattle.frame_pool.specs.Words.{total}
 use Rattle.frame_pool.specs.Rule.{idle_lane}
 use Rattle.frame_pool.specs.Steps.{Seated, lane_at, parts_of, hinted_lane, hinted, reserved, handed_stage, handed, leased, keeper_view, lease_view}
 use Rattle.frame_pool.specs.Pool.{Identity, LeaseIs, AreParts}
@@ -35,15 +32,11 @@ pub total_low : (z : Sizes) (ps : List Part) → AreParts z ps → total ps ≤ 
 total_low z [] h = omega arith
 total_low z (p ∷ ps) h = omega (arith, total_cons p ps, total_low z ps h.1, h.0.ends, suc-mul (length ps) z.block)
 
-pub length_places : (block : ℕ) (ps : List Part) → length (places block ps) ≡ total ps
-length_places block [] = refl
-length_places block (p ∷ ps) = length-append (range_with_len (p.frame * block + p.from) p.len) (places block ps) ∙ (λ i. length-range_with_len (p.frame * block + p.from) p.len i + length_places block ps i) ∙ sym (total_cons p ps)
-
 abbrev pub granted_lane : LaneState → List Part → LaneState
 granted_lane d ps = record (hinted_lane d 0) { stage = Handed ps }
 
 abbrev pub new_lease : KeeperView → ℕ → List Part → LeaseView
-new_lease k l ps = record { sizes = k.sizes; lane = l; parts = ps; samples = bytes_at k.mirror (places k.sizes.block ps); live = true; hinted = false; looks = [] }
+new_lease k l ps = record { sizes = k.sizes; lane = l; parts = ps; live = true; hinted = false; looks = [] }
 
 module _ (k : KeeperView) (l : ℕ) (ps : List Part) (m₁ m₂ : Seated) (low : l < length k.lane_states) (a : m₁ ≡ keeping (hinted k l 0)) (b : m₂ ≡ keeping (reserved (keeper_view m₁.0) l ps)) where
   abbrev clear : LaneState
@@ -74,21 +67,18 @@ module _ (k : KeeperView) (l : ℕ) (ps : List Part) (m₁ m₂ : Seated) (low :
 
   pub leases : leased (keeper_view m₂.0) ≡ new_lease k l ps
   leases = ap leased reserved_all
-      ∙ ap (λ (d : LaneState). record { sizes = k.sizes; lane = l; parts = parts_of d.stage; samples = bytes_at k.mirror (places k.sizes.block (parts_of d.stage)); live = true; hinted = false; looks = [] }) same_asked
+      ∙ ap (λ (d : LaneState). record { sizes = k.sizes; lane = l; parts = parts_of d.stage; live = true; hinted = false; looks = [] }) same_asked
 
-pub lease_is : (w : Identity) (k : KeeperView) (l : ℕ) (ps : List Part) (s : Seat Parts View) → k.sizes ≡ w.sizes → s.table_id ≡ w.id → s.me ≡ holding (new_lease k l ps) → l < w.sizes.lanes → AreParts w.sizes ps → length ps ≤ 4
-    → LeaseIs w l (total ps) true ps s
-lease_is w k l ps s sizes table me low inside few =
+pub lease_is : (w : Identity) (k : KeeperView) (l : ℕ) (ps : List Part) (samples : List ℕ) (s : Seat Parts View) → k.sizes ≡ w.sizes → s.table_id ≡ w.id → s.me ≡ holding (new_lease k l ps) → l < w.sizes.lanes → length samples ≡ total ps
+    → LeaseIs w l (total ps) true samples s
+lease_is w k l ps samples s sizes table me low long =
     let same : lease_view s.me.0 ≡ new_lease k l ps = ap (λ (x : Seated). lease_view x.0) me in
     record {
       pool = table;
       seat = record { me = me ∙ (λ j. holding (sym same j)); sizes = ap (λ (x : LeaseView). x.sizes) same ∙ sizes };
       lane_is = ap (λ (x : LeaseView). x.lane) same;
       low = low;
-      parts_are = ap (λ (x : LeaseView). x.parts) same;
-      inside = inside;
-      few = few;
-      len_is = refl;
-      long = ap (λ (x : LeaseView). length x.samples) same ∙ length-map (places k.sizes.block ps) (byte_of k.mirror) ∙ length_places k.sizes.block ps;
+      len_is = ap (λ (x : LeaseView). total x.parts) (sym same);
+      long = long;
       live_is = ap (λ (x : LeaseView). x.live) same;
     }

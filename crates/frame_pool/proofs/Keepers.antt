@@ -15,7 +15,6 @@ use Rattle.frame_pool.specs.declared.views.LaneState.{LaneState}
 use Rattle.frame_pool.specs.declared.views.KeeperView.{KeeperView}
 use Rattle.frame_pool.specs.declared.views.View.{View}
 use Rattle.frame_pool.specs.declared.views.View.TheVariants.{Keeper}
-use Rattle.frame_pool.specs.Words.{frame_words}
 use Rattle.std.proofs.lemmas.List.{length-replicate}
 use Rattle.frame_pool.specs.Rule.{idle_lane, opened}
 use Rattle.frame_pool.proofs.Opens.{same_there}
@@ -25,10 +24,10 @@ use Rattle.frame_pool.proofs.Moves.{keeping, there_get}
 use Rattle.frame_pool.proofs.LaneStates.{changing}
 
 pub keeper_is : (w : Identity) (s s' : Seat Parts View) → KeeperIs w s → s'.table_id ≡ s.table_id → s'.id ≡ s.id → (k : KeeperView) → s'.me ≡ keeping k
-    → k.sizes ≡ (keeper_view s.me.0).sizes → length k.mirror ≡ length (keeper_view s.me.0).mirror → length k.lane_states ≡ length (keeper_view s.me.0).lane_states
+    → k.sizes ≡ (keeper_view s.me.0).sizes → length k.lane_states ≡ length (keeper_view s.me.0).lane_states
     → ((l : ℕ) (d : LaneState) → get_elem? k.lane_states l ≡ some d → AreParts w.sizes (parts_of d.stage))
     → KeeperIs w s'
-keeper_is w s s' i table id k me sizes mirror lane_states inside =
+keeper_is w s s' i table id k me sizes lane_states inside =
     let same : keeper_view s'.me.0 ≡ k = ap (λ (x : Seated). keeper_view x.0) me in
     record {
       pool = table ∙ i.pool;
@@ -37,7 +36,6 @@ keeper_is w s s' i table id k me sizes mirror lane_states inside =
         me = me ∙ (λ j. (Keeper (sym same j), []));
         sizes = ap (λ (x : KeeperView). x.sizes) same ∙ sizes ∙ i.seat.sizes;
       };
-      framed = ap (λ (x : KeeperView). length x.mirror) same ∙ mirror ∙ i.framed;
       counted = ap (λ (x : KeeperView). length x.lane_states) same ∙ lane_states ∙ i.counted;
       inside = subst (λ (x : KeeperView). (l : ℕ) (d : LaneState) → get_elem? x.lane_states l ≡ some d → AreParts w.sizes (parts_of d.stage)) (sym same) inside;
     }
@@ -48,7 +46,7 @@ pub lane_state_is : (w : Identity) (s s' : Seat Parts View) → KeeperIs w s →
     → KeeperIs w s'
 lane_state_is w s s' i table id t l d me parts =
     let k : KeeperView = keeper_view s.me.0 in
-    keeper_is w s s' i table id (changing k t l d) me refl refl (length-set k.lane_states l d)
+    keeper_is w s s' i table id (changing k t l d) me refl (length-set k.lane_states l d)
     (λ j e is. ⊎_elim (λ (u : (j ≡ l) × (d ≡ e)). subst (λ (x : LaneState). AreParts w.sizes (parts_of x.stage)) u.1 parts) (λ (u : (j ≢ l) × (get_elem? k.lane_states j ≡ some e)). i.inside j e u.1) (at_set k.lane_states l j d e is))
 
 -- the parts of a lane lie inside its frames
@@ -58,10 +56,10 @@ parts_at w s i l low = i.inside l (lane_at (keeper_view s.me.0) l) (there_get (k
 pub lane_there_now : (k k' : KeeperView) (t l : ℕ) (d : LaneState) → k' ≡ changing k t l d → l < length k.lane_states → lane_at k' l ≡ d
 lane_there_now k k' t l d same low = ap (λ (x : KeeperView). lane_at x l) same ∙ get_or-set_at k.lane_states l l d idle_lane refl low
 
-pub lane_changed : (old new : KeeperState) (t l : ℕ) (d : LaneState) → new.pool ≡ old.pool → new.view ≡ changing old.view t l d → ChangesLane old new l
-lane_changed old new t l d pool same = record {
+pub lane_changed : (old new : KeeperState) (t l : ℕ) (d : LaneState) → new.pool ≡ old.pool → new.frames ≡ old.frames → new.view ≡ changing old.view t l d → ChangesLane old new l
+lane_changed old new t l d pool frames same = record {
   pool = pool;
-  mirror = ap (λ (x : KeeperView). x.mirror) same;
+  frames = frames;
   others = λ j ne. ap (λ (x : KeeperView). lane_at x j) same ∙ get_or-set_other old.view.lane_states l j d idle_lane ne;
 }
 
@@ -82,7 +80,6 @@ keeper_new w s table id me =
     record {
       pool = table;
       seat = record { first = id; me = me ∙ (λ j. (Keeper (sym same j), [])); sizes = ap (λ (x : KeeperView). x.sizes) same };
-      framed = ap (λ (x : KeeperView). length x.mirror) same ∙ length-replicate (frame_words w.sizes) 0;
       counted = ap (λ (x : KeeperView). length x.lane_states) same ∙ length-replicate w.sizes.lanes idle_lane;
       inside = subst (λ (x : KeeperView). (l : ℕ) (d : LaneState) → get_elem? x.lane_states l ≡ some d → AreParts w.sizes (parts_of d.stage)) (sym same)
           (λ l d e. subst (λ (x : LaneState). AreParts w.sizes (parts_of x.stage)) (same_there w.sizes.lanes l idle_lane d e) tt);

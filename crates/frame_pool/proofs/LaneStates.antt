@@ -18,7 +18,7 @@ use Rattle.frame_pool.specs.declared.views.KeeperView.{KeeperView}
 use Rattle.frame_pool.specs.declared.views.LeaseView.{LeaseView}
 use Rattle.frame_pool.specs.declared.views.View.{View}
 use Rattle.frame_pool.specs.declared.views.View.TheVariants.{Keeper, Lease}
-use Rattle.frame_pool.specs.Words.{lane_word, hint_word, first_frame, total}
+use Rattle.frame_pool.specs.Words.{lane_word, hint_word, total}
 use Rattle.frame_pool.specs.Rule.{idle_lane, untold, IsOut, Stands, Bound, Kept, Ruled}
 use Rattle.frame_pool.specs.Steps.{Seated, lane_at, with_lane, is_free, ended, hinted_lane, hinted, Hints, looked_lane, looked, Looks, keeper_view, IsKeeper}
 use Rattle.frame_pool.proofs.Moves.{there_lt, there_get, keeper_inj, kept_at, as_keeper, keeping, keeps_on, stands_same}
@@ -40,8 +40,7 @@ lane_on ws ws' views k t l d o low long apart stands mine =
     let lane_of : (j : ℕ) (e : LaneState) → get_elem? k.lane_states j ≡ some e → j < lanes = λ j e is. omega (arith, there_lt k.lane_states j e is, o.counted) in
     let lane_same : (j : ℕ) → j < lanes → j ≢ l → get_or ws' (lane_word j) 0 ≡ get_or ws (lane_word j) 0 = λ j h ne. apart (lane_word j) (λ e. ne (omega arith)) (λ e. omega arith) in
     let hint_same : (j : ℕ) → j < lanes → j ≢ l → get_or ws' (hint_word lanes j) 0 ≡ get_or ws (hint_word lanes j) 0 = λ j h ne. apart (hint_word lanes j) (λ e. omega arith) (λ e. ne (omega arith)) in
-    keeps_on ws ws' views k (changing k t l d) o refl long refl (length-set k.lane_states l d)
-    (λ p h. apart (first_frame lanes + p) (λ e. omega arith) (λ e. omega arith) ∙ o.mirror p h)
+    keeps_on ws ws' views k (changing k t l d) o refl long (length-set k.lane_states l d)
     (λ j e is. ⊎_elim
     (λ (u : (j ≡ l) × (d ≡ e)). subst (λ (y : ℕ × LaneState). Stands ws' lanes y.0 y.1) (λ i. (sym u.0 i, u.1 i)) stands)
     (λ (u : (j ≢ l) × (get_elem? k.lane_states j ≡ some e)). let h = lane_of j e u.1 in stands_same ws ws' lanes j e (hint_same j h u.0) (lane_same j h u.0) (o.lanes j e u.1))
@@ -54,7 +53,6 @@ lane_on ws ws' views k t l d o low long apart stands mine =
       out = b.out;
       word = λ on. t ∙ b.word on;
       handed = b.handed;
-      reads = b.reads;
       over = λ off. t ∙ b.over off;
       hinted = b.hinted;
     }))
@@ -75,7 +73,6 @@ bound_same ws ws' k t l d h e b out lane handed mark =
       out = out;
       word = λ on. same ∙ b.word on;
       handed = handed;
-      reads = b.reads;
       over = λ off. same ∙ b.over off;
       hinted = λ on. mark (b.hinted on);
     }

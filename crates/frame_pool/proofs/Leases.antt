@@ -1,16 +1,14 @@
 -- The steps of a lease keep the rule, and so do the split and the join of one.
-use Rattle.std.proofs.Common.{◌≡◌, ◌≢◌, ℕ, ◌+◌, ◌-◌, ◌/◌, ◌%◌, ◌≤◌, ◌<◌, List, [], length, get_or, set, true, false, true≢false, refl, sym, ap, ◌∙◌, subst, ⊎_elim, arith, length-set, eqb-true}
+use Rattle.std.proofs.Common.{◌≡◌, ◌≢◌, ℕ, ◌≤◌, ◌<◌, List, [], length, get_or, set, true, false, true≢false, refl, sym, ap, ◌∙◌, subst, ⊎_elim, arith, length-set, eqb-true}
 use Rattle.std.specs.Prelude.{if◌then◌else◌, ◌==◌}
-use Rattle.std.specs.Int.{w64, to_le_bytes}
 use mathlib.Core.Option.{none, some, some-injective}
 use mathlib.Core.Logic.{dite}
 use native.Mathlib.Decide.{ℕ_discrete}
 use lib.ListN.{get_elem?}
-use Rattle.std.proofs.lemmas.List.{get_or-set_other, set-get_or, get_or-map}
+use Rattle.std.proofs.lemmas.List.{get_or-set_other, set-get_or}
 use Rattle.std.proofs.lemmas.Grind.{get_or-set_at}
-use Rattle.atomic_table.specs.Table.{State, step, stepped, keeps, Allows}
-use Rattle.atomic_table.proofs.Lists.{at_set, set_else, set_again}
-use Rattle.frame_pool.specs.declared.views.Parts.{Parts}
+use Rattle.atomic_table.specs.Table.{step, keeps, Allows}
+use Rattle.atomic_table.proofs.Lists.{at_set, set_else}
 use Rattle.frame_pool.specs.declared.views.Sizes.{Sizes}
 use Rattle.frame_pool.specs.declared.views.Stage.TheVariants.{Free, Reserved, Handed, Ended}
 use Rattle.frame_pool.specs.declared.views.LaneState.{LaneState}
@@ -18,9 +16,9 @@ use Rattle.frame_pool.specs.declared.views.KeeperView.{KeeperView}
 use Rattle.frame_pool.specs.declared.views.LeaseView.{LeaseView}
 use Rattle.frame_pool.specs.declared.views.View.{View}
 use Rattle.frame_pool.specs.declared.views.View.TheVariants.{Lease}
-use Rattle.frame_pool.specs.Words.{lane_word, hint_word, first_frame, frame_words, byte_of, places, bytes_at, total}
+use Rattle.frame_pool.specs.Words.{lane_word, hint_word, total}
 use Rattle.frame_pool.specs.Rule.{Stands, Bound, Kept, Ruled}
-use Rattle.frame_pool.specs.Steps.{Seated, Shows, Reads, listened, Listens, dropped, Drops, lease_view, IsLease}
+use Rattle.frame_pool.specs.Steps.{Seated, listened, Listens, dropped, Drops, lease_view, IsLease}
 use Rattle.frame_pool.proofs.Moves.{there_lt, lease_inj, keeper_not_lease, stands_same}
 
 abbrev pub holding : LeaseView → Seated
@@ -37,7 +35,6 @@ bound_word ws ws' k h t b = record {
   out = b.out;
   word = λ on. t ∙ b.word on;
   handed = b.handed;
-  reads = b.reads;
   over = λ off. t ∙ b.over off;
   hinted = b.hinted;
 }
@@ -57,9 +54,7 @@ lease_on ws ws' views k id h h' o at lane long apart stands bound =
     record {
       seated = set_else views id 0 (Lease h') not_first ∙ o.seated;
       wide = long ∙ o.wide;
-      framed = o.framed;
       counted = o.counted;
-      mirror = λ p q. apart (first_frame lanes + p) (λ e. omega arith) ∙ o.mirror p q;
       lanes = λ l d is. dite (ℕ_discrete l h.lane)
           (λ e. subst (λ (j : ℕ). Stands ws' lanes j d) (sym e) (stands d (ap (λ (j : ℕ). get_elem? k.lane_states j) (sym e) ∙ is)))
           (λ ne. let near = lane_of l d is in stands_same ws ws' lanes l d (apart (hint_word lanes l) (λ e. omega arith)) (apart (lane_word l) (λ e. ne (omega arith))) (o.lanes l d is));
@@ -79,56 +74,6 @@ lease_on ws ws' views k id h h' o at lane long apart stands bound =
           (at_set views id j (Lease h') (Lease e) js))
           (at_set views id i (Lease h') (Lease f) is);
     }
-
--- A lease loads a frame word.
-
-shown : (ws : List ℕ) (views : List View) (k : KeeperView) (id p : ℕ) (h : LeaseView) → Kept ws views k → get_elem? views id ≡ some (Lease h) → h.live ≡ true → p < frame_words h.sizes
-    → Shows h p (get_or ws (first_frame h.sizes.lanes + p) 0)
-shown ws views k id p h o at on low j near is =
-    let b = o.leases id h at in
-    let z : h.sizes ≡ k.sizes = b.sizes in
-    let spots : List ℕ = places h.sizes.block h.parts in
-    let a : ℕ = get_or spots j 0 in
-    let there : p < length k.mirror = omega (arith, o.framed, subst (λ (y : Sizes). p < frame_words y) z low) in
-    let word : get_or ws (first_frame h.sizes.lanes + p) 0 ≡ get_or k.mirror p 0 = ap (λ (y : Sizes). get_or ws (first_frame y.lanes + p) 0) z ∙ o.mirror p there in
-    let reads : bytes_at k.mirror spots ≡ h.samples = ap (λ (y : Sizes). bytes_at k.mirror (places y.block h.parts)) z ∙ b.reads on in
-    let byte : get_or (bytes_at k.mirror spots) j 0 ≡ byte_of k.mirror a = get_or-map (byte_of k.mirror) spots j 0 0 near in
-    let same_word : get_or k.mirror (a / 8) 0 ≡ get_or ws (first_frame h.sizes.lanes + p) 0 = ap (λ (x : ℕ). get_or k.mirror x 0) is ∙ sym word in
-    ap (λ (xs : List ℕ). get_or xs j 0) (sym reads) ∙ byte ∙ ap (λ (x : ℕ). get_or (to_le_bytes w64 x) (a % 8) 0) same_word
-
-still : (s : State Parts View) (id w : ℕ) (v : View) → Ruled s → get_elem? s.views id ≡ some v → Ruled (stepped s w (get_or s.words w 0) id [] v keeps)
-still s id w v o at = subst (λ (y : List ℕ × List View). (k : KeeperView) × Kept y.0 y.1 k) (λ i. (sym (set-get_or s.words w 0) i, sym (set_again s.views id v at) i)) o
-
-read_now : (h : LeaseView) (slots id w p : ℕ) → h.live ≡ true → w ≡ first_frame h.sizes.lanes + p → p < frame_words h.sizes
-    → Allows Ruled slots id (Lease h, []) w (λ n. n) (Reads (step slots w 0 0 none) (Lease h, []))
-read_now h slots id w p on is low s o wide me small = (
-  Lease h,
-  keeps,
-  tt,
-  still s id w (Lease h) o me,
-  λ h₁ e. (
-    refl,
-    let same : h ≡ h₁ = lease_inj h h₁ e in
-        subst (λ (x : LeaseView). Shows x (w - first_frame x.sizes.lanes) (get_or s.words w 0)) same
-        (let at : p ≡ w - first_frame h.sizes.lanes = omega arith in
-        subst (λ (y : ℕ × ℕ). Shows h y.0 (get_or s.words y.1 0)) (λ i. (at i, sym is i)) (shown s.words s.views o.0 id p h o.1 me on low)),
-  ),
-)
-
-pub reads : (z : Sizes) (id : ℕ) (m : Seated) → IsLease z m → (slots w p : ℕ) → (lease_view m.0).live ≡ true → w ≡ first_frame z.lanes + p → p < frame_words z
-    → Allows Ruled slots id m w (λ n. n) (Reads (step slots w 0 0 none) m)
-reads z id m is slots w p on at low =
-    let z' : z ≡ (lease_view m.0).sizes = sym is.sizes in
-    as_lease z m is (λ (n : Seated). Allows Ruled slots id n w (λ x. x) (Reads (step slots w 0 0 none) n))
-    (read_now (lease_view m.0) slots id w p on (at ∙ ap (λ (y : Sizes). first_frame y.lanes + p) z') (subst (λ (y : Sizes). p < frame_words y) z' low))
-
-pub read_told : (z : Sizes) (m n : Seated) → IsLease z m → (slots w p found : ℕ) → w ≡ first_frame z.lanes + p → Reads (step slots w 0 0 none) m found n
-    → (n ≡ m) × Shows (lease_view m.0) p found
-read_told z m n is slots w p found at told =
-    let h : LeaseView = lease_view m.0 in
-    let here : w - first_frame h.sizes.lanes ≡ p = omega (arith, ap (λ (y : Sizes). first_frame y.lanes) is.sizes) in
-    let t = told h (ap (λ (x : Seated). x.0) is.me) in
-    (t.0, subst (λ (x : ℕ). Shows h x found) here t.1)
 
 -- A lease loads its lane's hint word.
 
@@ -152,7 +97,6 @@ listen_now h slots id w is s o wide me small =
       out = b.out;
       word = b.word;
       handed = b.handed;
-      reads = b.reads;
       over = b.over;
       hinted = heard n h (b.state.mark ≡ true) (λ one. stands.marked (sym here ∙ one) busy) b.hinted;
     } in
@@ -195,7 +139,6 @@ drop_now h slots id w is s o wide me small =
       out = b.out;
       word = λ on. absurd (true≢false (sym on));
       handed = λ on. absurd (true≢false (sym on));
-      reads = λ on. absurd (true≢false (sym on));
       over = λ _. none_there;
       hinted = b.hinted;
     } in (

@@ -5,9 +5,5 @@ pub mod Grants
 pub mod Leases
 pub mod Passing
 pub mod Keepers
-pub mod Bytes
-pub mod Lending
-pub mod Fillings
+pub mod Copied
 pub mod Granting
-pub mod Samples
-pub mod Windows

@@ -1,5 +1,5 @@
 -- A new pool's table meets its rule.
-use Rattle.std.proofs.Common.{◌≡◌, ℕ, zero, suc, ◌+◌, List, [], ◌∷◌, get_or, refl, sym, ◌∙◌, subst, inr, arith}
+use Rattle.std.proofs.Common.{◌≡◌, ℕ, zero, suc, List, [], ◌∷◌, get_or, refl, sym, subst, inr, arith}
 use Rattle.std.specs.Prelude.{replicate}
 use mathlib.Core.Option.{some, some-injective, some-ne-none}
 use lib.ListN.{get_elem?}
@@ -8,7 +8,7 @@ use Rattle.atomic_table.specs.Table.{opening}
 use Rattle.frame_pool.specs.declared.views.Sizes.{Sizes}
 use Rattle.frame_pool.specs.declared.views.LeaseView.{LeaseView}
 use Rattle.frame_pool.specs.declared.views.View.TheVariants.{Keeper, Lease}
-use Rattle.frame_pool.specs.Words.{lane_word, hint_word, first_frame, frame_words}
+use Rattle.frame_pool.specs.Words.{lane_word, hint_word, word_count}
 use Rattle.frame_pool.specs.Rule.{idle_lane, opened, Stands, Kept, Ruled}
 
 abbrev pub zeros : ℕ → List ℕ
@@ -40,16 +40,14 @@ no_lease : {P : Type 0} (z : Sizes) (id : ℕ) (h : LeaseView) → get_elem? (Ke
 no_lease z zero h e = absurd (cc (some-injective _ _ e))
 no_lease z (suc id) h e = absurd (some-ne-none _ (sym e))
 
-pub opens : (z : Sizes) (ws : List ℕ) → ws ≡ zeros (first_frame z.lanes + frame_words z) → Ruled (opening {S = List Rattle.frame_pool.specs.declared.views.Part.Part} ws [] (Keeper (opened z)))
+pub opens : (z : Sizes) (ws : List ℕ) → ws ≡ zeros (word_count z.lanes) → Ruled (opening {S = List Rattle.frame_pool.specs.declared.views.Part.Part} ws [] (Keeper (opened z)))
 opens z ws is = subst (λ (w : List ℕ). (k : Rattle.frame_pool.specs.declared.views.KeeperView.KeeperView) × Kept w (Keeper (opened z) ∷ []) k) (sym is) (
   opened z,
   record {
     seated = refl;
     wide = length-replicate _ _;
-    framed = length-replicate _ _;
     counted = length-replicate _ _;
-    mirror = λ p h. all_zero _ (first_frame z.lanes + p) ∙ sym (all_zero (frame_words z) p);
-    lanes = λ l d e. subst (Stands (zeros (first_frame z.lanes + frame_words z)) z.lanes l) (same_there z.lanes l idle_lane d e) (idle_stands _ z.lanes l);
+    lanes = λ l d e. subst (Stands (zeros (word_count z.lanes)) z.lanes l) (same_there z.lanes l idle_lane d e) (idle_stands _ z.lanes l);
     leases = λ id h e. no_lease z id h e;
     once = λ i j h g e f same. no_lease z i h e;
   },

@@ -43,9 +43,7 @@ lease_more : (ws : List ℕ) (views : List View) (k : KeeperView) (h : LeaseView
 lease_more ws views k h o bound alone = record {
   seated = at_longer views (Lease h ∷ []) 0 (Keeper k) o.seated;
   wide = o.wide;
-  framed = o.framed;
   counted = o.counted;
-  mirror = o.mirror;
   lanes = o.lanes;
   leases = λ j e is. ⊎_elim (λ t. o.leases j e t) (λ (t : (j ≡ length views) × (Lease h ≡ Lease e)). subst (Bound ws k) (lease_inj h e t.1) bound) (at_end views (Lease h) (Lease e) j is);
   once = λ i j f e is js same. ⊎_elim
@@ -89,7 +87,6 @@ hand_now k low is s o at =
       out = inl st;
       word = λ _. one;
       handed = λ _. st;
-      reads = λ _. refl;
       over = λ off. absurd (true≢false off);
       hinted = λ on. absurd (true≢false (sym on));
     } in (
@@ -114,9 +111,7 @@ lease_gone ws views k id h o at =
     record {
       seated = set_else views id 0 Spent not_first ∙ o.seated;
       wide = o.wide;
-      framed = o.framed;
       counted = o.counted;
-      mirror = o.mirror;
       lanes = o.lanes;
       leases = λ j e is. o.leases j e (other j e is);
       once = λ i j f e is js same. o.once i j f e (other i f is) (other j e js) same;

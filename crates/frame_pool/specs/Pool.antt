@@ -1,6 +1,6 @@
 -- A pool, its keeper and its leases, as contracts see them.
-use Rattle.std.specs.Prelude.{◌≡◌, ◌≢◌, ℕ, ◌+◌, ◌*◌, ◌%◌, ◌≤◌, ◌<◌, ◌⊎◌, List, [], ◌∷◌, ◌++◌, length, slice_index, Bool, true, false, if◌then◌else◌, Option, Some, None, All, slice_range, drop}
-use Rattle.std.specs.List.{range_with_len, flat_map}
+use Rattle.std.specs.Prelude.{◌≡◌, ◌≢◌, ℕ, ◌+◌, ◌*◌, ◌%◌, ◌≤◌, ◌<◌, List, [], ◌∷◌, ◌++◌, length, slice_index_or, Bool, true, false, if◌then◌else◌, Option, Some, None, All, slice_range}
+use Rattle.std.specs.List.{flat_map}
 use mathlib.Core.Option.{some}
 use lib.ListN.{get_elem?}
 use Rattle.atomic_table.specs.Seated.{TableId}
@@ -13,7 +13,7 @@ use Rattle.frame_pool.specs.declared.views.LaneState.{LaneState}
 use Rattle.frame_pool.specs.declared.views.KeeperView.{KeeperView}
 use Rattle.frame_pool.specs.declared.views.LeaseView.{LeaseView}
 use Rattle.frame_pool.specs.declared.views.View.{View}
-use Rattle.frame_pool.specs.Words.{frame_words, byte_of, places, bytes_at, total}
+use Rattle.frame_pool.specs.Words.{total}
 use Rattle.frame_pool.specs.Steps.{lane_at, parts_of, keeper_view, lease_view, IsKeeper, IsLease}
 
 -- which pool it is, and its sizes
@@ -29,9 +29,10 @@ pub record IsSized (z : Sizes) : Type 0 where
   pub some_block : 8 ≤ z.block
   pub small_block : z.block ≤ 8192
 
--- the keeper: its pool, and what it knows
+-- the keeper: its pool, the bytes of each frame, and what it knows of the lanes
 pub record KeeperState : Type 0 where
   pub pool : Identity
+  pub frames : List (List ℕ)
   pub view : KeeperView
 
 -- a lease; of one that was taken back only the pool, the lane and the length are kept
@@ -68,15 +69,19 @@ looks_of k l = (lane_at k.view l).looks
 
 -- the bytes of a frame
 abbrev pub frame_of : KeeperState → ℕ → List ℕ
-frame_of k f = bytes_at k.view.mirror (range_with_len (f * block_of k) (block_of k))
+frame_of k f = slice_index_or k.frames f []
+
+-- a part's samples among frames
+abbrev pub stretch_in : List (List ℕ) → Part → List ℕ
+stretch_in frames p = slice_range (slice_index_or frames p.frame []) p.from (p.from + p.len)
+
+-- a part lies within frames
+abbrev pub IsWithin : List (List ℕ) → Part → Type 0
+IsWithin frames p = (p.frame < length frames) × (p.from + p.len ≤ length (slice_index_or frames p.frame []))
 
 -- a part's samples
 abbrev pub stretch_of : KeeperState → Part → List ℕ
-stretch_of k p = slice_range (frame_of k p.frame) p.from (p.from + p.len)
-
--- the samples at parts of the frames
-abbrev pub samples_of : KeeperState → List Part → List ℕ
-samples_of k ps = bytes_at k.view.mirror (places (block_of k) ps)
+stretch_of k p = stretch_in k.frames p
 
 -- the frame is in no lane's parts
 abbrev pub IsSpare : KeeperState → ℕ → Type 0
@@ -96,39 +101,40 @@ AreParts z (p ∷ ps) = IsPart z p × AreParts z ps
 -- all but what is known of one lane stays
 pub record ChangesLane (old new : KeeperState) (l : ℕ) : Type 0 where
   pub pool : new.pool ≡ old.pool
-  pub mirror : new.view.mirror ≡ old.view.mirror
+  pub frames : new.frames ≡ old.frames
   pub others : (j : ℕ) → j ≢ l → lane_at new.view j ≡ lane_at old.view j
+
+-- four frames a lane, each of a block
+pub record AreFrames (z : Sizes) (frames : List (List ℕ)) : Type 0 where
+  pub count : length frames ≡ 4 * z.lanes
+  pub whole : (f : ℕ) → f < 4 * z.lanes → length (slice_index_or frames f []) ≡ z.block
 
 -- the keeper's seat, at a pool
 pub record KeeperIs (w : Identity) (s : Seat Parts View) : Type 0 where
   pub pool : s.table_id ≡ w.id
   pub seat : IsKeeper w.sizes s.id s.me
-  pub framed : length (keeper_view s.me.0).mirror ≡ frame_words w.sizes
   pub counted : length (keeper_view s.me.0).lane_states ≡ w.sizes.lanes
   pub inside : (l : ℕ) (d : LaneState) → get_elem? (keeper_view s.me.0).lane_states l ≡ some d → AreParts w.sizes (parts_of d.stage)
 
 -- what a lease knows, which is nothing once it was taken back
 abbrev pub lease_view_in : Option (Seat Parts View) → LeaseView
 lease_view_in (Some s) = lease_view s.me.0
-lease_view_in None = record { sizes = record { lanes = 0; block = 0 }; lane = 0; parts = []; samples = []; live = false; hinted = false; looks = [] }
+lease_view_in None = record { sizes = record { lanes = 0; block = 0 }; lane = 0; parts = []; live = false; hinted = false; looks = [] }
 
--- a lease's seat, at a pool
-pub record LeaseIs (w : Identity) (lane len : ℕ) (live : Bool) (parts : List Part) (s : Seat Parts View) : Type 0 where
+-- a lease's seat, at a pool, and its samples
+pub record LeaseIs (w : Identity) (lane len : ℕ) (live : Bool) (samples : List ℕ) (s : Seat Parts View) : Type 0 where
   pub pool : s.table_id ≡ w.id
   pub seat : IsLease w.sizes s.me
   pub lane_is : (lease_view s.me.0).lane ≡ lane
   pub low : lane < w.sizes.lanes
-  pub parts_are : (lease_view s.me.0).parts ≡ parts
-  pub inside : AreParts w.sizes parts
-  pub few : length parts ≤ 4
-  pub len_is : len ≡ total parts
-  pub long : length (lease_view s.me.0).samples ≡ len
+  pub len_is : len ≡ total (lease_view s.me.0).parts
+  pub long : length samples ≡ len
   pub live_is : (lease_view s.me.0).live ≡ live
 
--- the seat of a lease, which one that was taken back has not
-abbrev pub LeaseOf : Identity → ℕ → ℕ → Bool → List Part → Option (Seat Parts View) → Type 0
-LeaseOf w lane len live parts (Some s) = LeaseIs w lane len live parts s
-LeaseOf w lane len live parts None = live ≡ false
+-- the seat and the samples of a lease, which one that was taken back has not
+abbrev pub LeaseOf : Identity → ℕ → ℕ → Bool → List ℕ → Option (Seat Parts View) → Type 0
+LeaseOf w lane len live samples (Some s) = LeaseIs w lane len live samples s
+LeaseOf w lane len live samples None = (live ≡ false) × (samples ≡ [])
 
 -- a lease of these parts, as it is handed out
 abbrev pub granted : KeeperState → ℕ → List Part → LeaseState
@@ -156,24 +162,3 @@ pub record GivesUp (old : LeaseState) (s : Seat Parts View) : Type 0 where
   pub parts : (lease_view s.me.0).parts ≡ old.parts
   pub len : total old.parts ≡ old.len
   pub hinted : (lease_view s.me.0).hinted ≡ old.hinted
-
--- a run of words of the frames was stored, n so far
-pub record Stored (first : ℕ) (bytes : List ℕ) (n : ℕ) (k k' : KeeperView) : Type 0 where
-  pub same : k' ≡ record k { mirror = k'.mirror }
-  pub long : length k'.mirror ≡ length k.mirror
-  pub written : (b : ℕ) → b < 8 * n → byte_of k'.mirror (8 * first + b) ≡ slice_index bytes b
-  pub others : (p : ℕ) → (p < first) ⊎ (first + n ≤ p) → slice_index k'.mirror p ≡ slice_index k.mirror p
-
--- the n samples of a lease from `at` on lie at the places from `place` on
-pub record IsRun (h : LeaseView) (at place n : ℕ) : Type 0 where
-  pub inside : at + n ≤ total h.parts
-  pub row : (j : ℕ) → j < n → slice_index (places h.sizes.block h.parts) (at + j) ≡ place + j
-
--- from the sample `at` on a lease has what these parts have from `skip` on, and that is n samples or more
-pub record IsRest (h : LeaseView) (at : ℕ) (ps : List Part) (skip n : ℕ) : Type 0 where
-  pub inside : at + n ≤ total h.parts
-  pub same : drop at (places h.sizes.block h.parts) ≡ drop skip (places h.sizes.block ps)
-
--- these are samples of a lease, from `at` on
-abbrev pub AreSamples : LeaseView → ℕ → List ℕ → Type 0
-AreSamples h at xs = (j : ℕ) → j < length xs → slice_index xs j ≡ slice_index h.samples (at + j)

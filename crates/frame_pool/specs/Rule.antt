@@ -1,5 +1,5 @@
 -- The rule of a pool's table: what its words and the views of its seats have to do with one another.
-use Rattle.std.specs.Prelude.{◌≡◌, ℕ, ◌+◌, ◌≤◌, ◌<◌, ◌⊎◌, List, [], length, slice_index, true, false, replicate}
+use Rattle.std.specs.Prelude.{◌≡◌, ℕ, ◌≤◌, ◌⊎◌, List, [], length, slice_index, true, false, replicate}
 use mathlib.Core.Option.{some}
 use lib.ListN.{get_elem?}
 use Rattle.atomic_table.specs.Table.{State}
@@ -13,7 +13,7 @@ use Rattle.frame_pool.specs.declared.views.KeeperView.{KeeperView}
 use Rattle.frame_pool.specs.declared.views.LeaseView.{LeaseView}
 use Rattle.frame_pool.specs.declared.views.View.{View}
 use Rattle.frame_pool.specs.declared.views.View.TheVariants.{Keeper, Lease}
-use Rattle.frame_pool.specs.Words.{lane_word, hint_word, first_frame, frame_words, places, bytes_at, total}
+use Rattle.frame_pool.specs.Words.{lane_word, hint_word, word_count, total}
 
 -- no lease was joined yet
 abbrev pub untold : Told
@@ -27,9 +27,9 @@ idle_lane = record { stage = Free; hint = 0; mark = false; told = untold; looks 
 abbrev pub IsOut : Stage → List Part → Type 0
 IsOut st ps = (st ≡ Handed ps) ⊎ (st ≡ Ended (total ps))
 
--- what the keeper knows at the start: every byte is 0 and every lane free
+-- what the keeper knows at the start: every lane is free
 abbrev pub opened : Sizes → KeeperView
-opened z = record { sizes = z; latest = 0; mirror = replicate (frame_words z) 0; lane_states = replicate z.lanes idle_lane }
+opened z = record { sizes = z; latest = 0; lane_states = replicate z.lanes idle_lane }
 
 -- what is true of the two words of a lane, and of what the keeper knows of it
 pub record Stands (words : List ℕ) (lanes l : ℕ) (d : LaneState) : Type 0 where
@@ -50,17 +50,14 @@ pub record Bound (words : List ℕ) (k : KeeperView) (h : LeaseView) : Type 0 wh
   pub out : IsOut state.stage h.parts
   pub word : h.live ≡ true → slice_index words (lane_word h.lane) ≡ 1
   pub handed : h.live ≡ true → state.stage ≡ Handed h.parts
-  pub reads : h.live ≡ true → bytes_at k.mirror (places k.sizes.block h.parts) ≡ h.samples
   pub over : h.live ≡ false → slice_index words (lane_word h.lane) ≡ 0
   pub hinted : h.hinted ≡ true → state.mark ≡ true
 
 -- the rule, of the keeper's view
 pub record Kept (words : List ℕ) (views : List View) (k : KeeperView) : Type 0 where
   pub seated : get_elem? views 0 ≡ some (Keeper k)
-  pub wide : length words ≡ first_frame k.sizes.lanes + frame_words k.sizes
-  pub framed : length k.mirror ≡ frame_words k.sizes
+  pub wide : length words ≡ word_count k.sizes.lanes
   pub counted : length k.lane_states ≡ k.sizes.lanes
-  pub mirror : (p : ℕ) → p < length k.mirror → slice_index words (first_frame k.sizes.lanes + p) ≡ slice_index k.mirror p
   pub lanes : (l : ℕ) (d : LaneState) → get_elem? k.lane_states l ≡ some d → Stands words k.sizes.lanes l d
   pub leases : (id : ℕ) (h : LeaseView) → get_elem? views id ≡ some (Lease h) → Bound words k h
   pub once : (i j : ℕ) (h e : LeaseView) → get_elem? views i ≡ some (Lease h) → get_elem? views j ≡ some (Lease e) → h.lane ≡ e.lane → i ≡ j

@@ -1,8 +1,6 @@
 -- What each step does to the view of its seat, and what it tells.
-use Rattle.std.specs.Prelude.{◌≡◌, ◌≢◌, ◌==◌, ℕ, ◌+◌, ◌-◌, ◌/◌, ◌%◌, ◌≤◌, ◌<◌, List, [], ◌∷◌, ◌++◌, length, slice_index, slice_index_or, slice_set, Bool, true, false, if◌then◌else◌}
+use Rattle.std.specs.Prelude.{◌≡◌, ◌==◌, ℕ, ◌+◌, ◌-◌, ◌≤◌, List, [], ◌∷◌, ◌++◌, slice_index_or, slice_set, Bool, true, false, if◌then◌else◌}
 use mathlib.Core.Option.{some}
-use lib.ListN.{get_elem?}
-use Rattle.std.specs.Int.{w64, to_le_bytes}
 use Rattle.atomic_table.specs.Table.{Me, Step}
 use Rattle.frame_pool.specs.declared.views.Part.{Part}
 use Rattle.frame_pool.specs.declared.views.Parts.{Parts}
@@ -13,7 +11,7 @@ use Rattle.frame_pool.specs.declared.views.KeeperView.{KeeperView}
 use Rattle.frame_pool.specs.declared.views.LeaseView.{LeaseView}
 use Rattle.frame_pool.specs.declared.views.View.{View}
 use Rattle.frame_pool.specs.declared.views.View.TheVariants.{Keeper, Lease, Spent}
-use Rattle.frame_pool.specs.Words.{first_frame, places, bytes_at, total}
+use Rattle.frame_pool.specs.Words.{total}
 use Rattle.frame_pool.specs.declared.views.Sizes.{Sizes}
 use Rattle.frame_pool.specs.Rule.{idle_lane, untold, IsOut, opened}
 
@@ -39,23 +37,6 @@ parts_of Free = []
 parts_of (Reserved ps) = ps
 parts_of (Handed ps) = ps
 parts_of (Ended n) = []
-
--- none of the places is in the word p of the frames
-abbrev pub Apart : ℕ → List ℕ → Type 0
-Apart p [] = Unit {0}
-Apart p (a ∷ spots) = (a / 8 ≢ p) × Apart p spots
-
--- the word p of the frames is in no lane's parts
-abbrev pub IsSpareWord : KeeperView → ℕ → Type 0
-IsSpareWord k p = (l : ℕ) (d : LaneState) → get_elem? k.lane_states l ≡ some d → Apart p (places k.sizes.block (parts_of d.stage))
-
--- a frame word is stored
-abbrev pub filled : KeeperView → ℕ → ℕ → KeeperView
-filled k p n = record k { mirror = slice_set k.mirror p n }
-
--- the step that stores a frame word
-abbrev pub Fills : Then
-Fills st m r n = (k : KeeperView) → m.0 ≡ Keeper k → n ≡ (Keeper (filled k (st.word - first_frame k.sizes.lanes) r), m.1)
 
 -- a lane's word is stored: 1 reserves the lane for parts
 abbrev pub reserved : KeeperView → ℕ → List Part → KeeperView
@@ -115,15 +96,6 @@ looked k l n = with_lane k l (looked_lane (lane_at k l) n)
 abbrev pub Looks : Then
 Looks st m r n = (k : KeeperView) → m.0 ≡ Keeper k → n ≡ (Keeper (looked k (st.word - 1) r), m.1)
 
--- the word p of the frames, loaded as n, has those samples of the lease whose places are in it
-abbrev pub Shows : LeaseView → ℕ → ℕ → Type 0
-Shows h p n = (j : ℕ) → j < length (places h.sizes.block h.parts) → slice_index (places h.sizes.block h.parts) j / 8 ≡ p
-    → slice_index h.samples j ≡ slice_index (to_le_bytes w64 n) (slice_index (places h.sizes.block h.parts) j % 8)
-
--- the step in which a lease loads a frame word
-abbrev pub Reads : Then
-Reads st m r n = (h : LeaseView) → m.0 ≡ Lease h → (n ≡ m) × Shows h (st.word - first_frame h.sizes.lanes) r
-
 -- a lease that loaded its lane's hint word as n: 1 makes it hinted
 abbrev pub listened : LeaseView → ℕ → LeaseView
 listened h n = record h { hinted = (if n == 1 then true else h.hinted); looks = h.looks ++ n ∷ [] }
@@ -157,7 +129,6 @@ leased k = record {
   sizes = k.sizes;
   lane = k.latest;
   parts = parts_of (lane_at k k.latest).stage;
-  samples = bytes_at k.mirror (places k.sizes.block (parts_of (lane_at k k.latest).stage));
   live = true;
   hinted = false;
   looks = [];

@@ -1,46 +1,68 @@
-// Whole frames, stored word by word.
-ghost use Rattle.std.specs.Prelude.{true, ◌≡◌, ℕ, ◌+◌, ◌-◌, ◌*◌, ◌/◌, ◌<◌, ◌≤◌, ◌^◌, [], ◌++◌, length, drop, slice_index, slice_range};
-ghost use Rattle.std.specs.Int.{w64, to_le_bytes};
-ghost use Rattle.frame_pool.specs.Words.{first_frame, frame_words, places, total};
-ghost use Rattle.frame_pool.specs.Steps.{IsKeeper, IsLease, IsSpareWord, keeper_view, lease_view};
-ghost use Rattle.frame_pool.specs.Pool.{IsSized, AreParts, Stored};
+// The frames, each of a block of bytes.
+ghost use Rattle.std.specs.Prelude.{◌≡◌, ℕ, ◌+◌, ◌<◌, ◌≤◌, [], IfOk, All, length, replicate, slice_index_or, slice_set};
+ghost use Rattle.std.specs.List.{flat_map};
+ghost use Rattle.frame_pool.specs.Pool.{stretch_in, IsWithin};
 
-use crate::steps::{Place, Steps, store_frame};
-use crate::views::Sizes;
+use crate::views::Part;
+use std::alloc::{AllocError, Global};
+use std::marker::Model;
+use std::mem;
 
-// The number of 8 bytes, the lowest first.
-fn word_at(bytes: &[u8], at: usize) -> u64
-    requires { at + 8 ≤ length bytes.now }
-    ensures { (j : ℕ) → j < 8 → slice_index (to_le_bytes w64 result) j ≡ slice_index bytes.now (at + j) }
-{
-    u64::from_le_bytes([
-        bytes[at],
-        bytes[at + 1],
-        bytes[at + 2],
-        bytes[at + 3],
-        bytes[at + 4],
-        bytes[at + 5],
-        bytes[at + 6],
-        bytes[at + 7],
-    ])
+// A frame's bytes. Contracts see the list.
+#[derive(Drop)]
+pub(crate) struct Frame {
+    bytes: Vec<u8>,
 }
 
-// Stores a block, one word after another.
-pub(crate) fn store_bytes(steps: &Steps, seat: &mut Place, sizes: Sizes, frame: u32, bytes: &[u8])
-    requires seat { (seat.old.table_id ≡ steps.now.table_id) × (steps.now.table_id.words ≡ first_frame sizes.lanes + frame_words sizes) }
-    requires view { IsKeeper sizes seat.old.id seat.old.me }
-    requires sized { IsSized sizes }
-    requires framed { length (keeper_view seat.old.me.0).mirror ≡ frame_words sizes }
-    requires bytes { length bytes.now ≡ sizes.block }
-    requires frame { frame < 4 * sizes.lanes }
-    requires spare { (w : ℕ) → w < sizes.block / 8 → IsSpareWord (keeper_view seat.old.me.0) (frame * (sizes.block / 8) + w) }
-    ensures seat { (seat.new.table_id ≡ seat.old.table_id) × (seat.new.id ≡ seat.old.id) }
-    ensures view { IsKeeper sizes seat.new.id seat.new.me }
-    ensures stored { Stored (frame * (sizes.block / 8)) bytes.now (sizes.block / 8) (keeper_view seat.old.me.0) (keeper_view seat.new.me.0) }
+impl Model for Frame {
+    ghost use Rattle.std.specs.Prelude.{ℕ, List};
+
+    ghost Value = { List ℕ };
+
+    ghost view = { λ f. f.bytes.items };
+}
+
+// Frames whose bytes are all 0.
+pub(crate) fn blank_frames(
+    alloc: Global,
+    count: usize,
+    block: usize,
+) -> Result<Vec<Frame>, AllocError>
+    ensures { IfOk result (λ frames. frames.items ≡ replicate count (replicate block 0)) }
 {
-    let words = bytes.len() / 8;
-    let first = frame as usize * words;
-    for i in 0..words {
-        store_frame(steps, seat, sizes, first + i, word_at(bytes, 8 * i));
+    let mut frames = Vec::with_capacity(alloc, count)?;
+    for _ in 0..count {
+        frames.push(Frame {
+            bytes: vec![in alloc; 0; block]?,
+        })?;
     }
+    Ok(frames)
+}
+
+// Swaps a frame's bytes with those of a room.
+pub(crate) fn swap_frame(frames: &mut Vec<Frame>, frame: usize, room: &mut Vec<u8>)
+    requires { frame < length frames.old.items }
+    ensures frames { frames.new.items ≡ slice_set frames.old.items frame room.old.items }
+    ensures room { room.new.items ≡ slice_index_or frames.old.items frame [] }
+{
+    mem::swap(&mut frames[frame].bytes, room);
+}
+
+// Copies the samples of parts, one part after another, into room for exactly so many.
+pub(crate) fn copy_parts(
+    alloc: Global,
+    frames: &[Frame],
+    parts: &[Part],
+    len: usize,
+) -> Result<Vec<u8>, AllocError>
+    requires { All (IsWithin frames.now) parts.now }
+    ensures { IfOk result (λ samples. samples.items ≡ flat_map (stretch_in frames.now) parts.now) }
+{
+    let mut samples = Vec::with_capacity(alloc, len)?;
+    for part in parts {
+        let from = part.from as usize;
+        let frame = &frames[part.frame as usize];
+        samples.extend_from_slice(&frame.bytes[from..from + part.len as usize])?;
+    }
+    Ok(samples)
 }

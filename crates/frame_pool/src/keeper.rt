@@ -4,9 +4,9 @@ ghost use Rattle.std.specs.Arc.{arc_value};
 ghost use Rattle.frame_pool.specs.Words.{total};
 ghost use Rattle.frame_pool.specs.Steps.{lane_at, ended, is_free, keeper_view};
 ghost use Rattle.frame_pool.specs.declared.views.Stage.TheVariants.{Free, Handed, Ended};
-ghost use Rattle.frame_pool.specs.Pool.{lanes_of, block_of, stage_of, hint_of, mark_of, looks_of, frame_of, ChangesLane, IsSpare, AreParts, word_of, granted, spent, KeeperIs};
+ghost use Rattle.frame_pool.specs.Pool.{lanes_of, block_of, stage_of, hint_of, mark_of, looks_of, frame_of, ChangesLane, IsSpare, AreParts, word_of, granted, spent, KeeperIs, AreFrames};
 
-use crate::frames::store_bytes;
+use crate::frames::{Frame, copy_parts, swap_frame};
 use crate::lease::{Lease, total_len};
 use crate::pool::Pool;
 use crate::steps::{Place, free_lane, hand_out, join, load_lane, reserve_lane, store_hint};
@@ -16,31 +16,33 @@ use std::marker::Model;
 use std::sync::Arc;
 use voice_units::{Lane, NoMemory};
 
-/// Fills the frames of a pool and gives out leases of them.
+/// Has the frames of a pool, fills them, and gives out leases of copies of their samples.
 #[derive(Drop)]
 pub struct Keeper {
     pool: Arc<Pool>,
+    frames: Vec<Frame>,
     seat: Place,
 }
 
 impl Model for Keeper {
     ghost use Rattle.std.specs.Arc.{arc_value};
     ghost use Rattle.frame_pool.specs.Steps.{keeper_view};
-    ghost use Rattle.frame_pool.specs.Pool.{KeeperState, KeeperIs};
+    ghost use Rattle.frame_pool.specs.Pool.{KeeperState, KeeperIs, AreFrames};
 
     ghost Value = { KeeperState };
 
-    ghost view = { λ k. record { pool = arc_value k.pool; view = keeper_view k.seat.me.0 } };
+    ghost view = { λ k. record { pool = arc_value k.pool; frames = k.frames.items; view = keeper_view k.seat.me.0 } };
 
-    ghost invariant = { λ k. KeeperIs (arc_value k.pool) k.seat };
+    ghost invariant = { λ k. KeeperIs (arc_value k.pool) k.seat × AreFrames (arc_value k.pool).sizes k.frames.items };
 }
 
 impl Keeper {
-    pub(crate) fn of(pool: Arc<Pool>, seat: Place) -> Keeper
-        requires { KeeperIs (arc_value pool) seat }
-        ensures { result ≡ record { pool = arc_value pool; view = keeper_view seat.me.0 } }
+    pub(crate) fn of(pool: Arc<Pool>, frames: Vec<Frame>, seat: Place) -> Keeper
+        requires seat { KeeperIs (arc_value pool) seat }
+        requires frames { AreFrames (arc_value pool).sizes frames.items }
+        ensures { result ≡ record { pool = arc_value pool; frames = frames.items; view = keeper_view seat.me.0 } }
     {
-        Keeper { pool, seat }
+        Keeper { pool, frames, seat }
     }
 
     /// Loads the lane's word. `true`: it was 0, and the lane's frames may be filled.
@@ -69,20 +71,20 @@ impl Keeper {
         store_hint(self.pool.steps(), &mut self.seat, sizes, lane.0, new);
     }
 
-    /// Fills a frame that is in no lane's parts.
-    pub fn fill(&mut self, frame: u32, bytes: &[u8])
-        requires block { length bytes.now ≡ block_of self.old }
+    /// Fills a frame that is in no lane's parts with the bytes of the room, which has what the frame had then.
+    pub fn fill(&mut self, frame: u32, room: &mut Vec<u8>)
+        requires block { length room.old.items ≡ block_of self.old }
         requires frame { frame < 4 * lanes_of self.old }
         requires spare { IsSpare self.old frame }
-        ensures filled { frame_of self.new frame ≡ bytes.now }
+        ensures filled { frame_of self.new frame ≡ room.old.items }
+        ensures room { length room.new.items ≡ length room.old.items }
         ensures others { (f : ℕ) → f ≢ frame → frame_of self.new f ≡ frame_of self.old f }
         ensures lanes { (self.new.pool ≡ self.old.pool) × ((l : ℕ) → lane_at self.new.view l ≡ lane_at self.old.view l) }
     {
-        let sizes = self.pool.sizes();
-        store_bytes(self.pool.steps(), &mut self.seat, sizes, frame, bytes);
+        swap_frame(&mut self.frames, frame as usize, room);
     }
 
-    /// Hands out a lease of these parts. After an error the lane is free, as before.
+    /// Hands out a lease with the samples of these parts. After an error the lane is free, as before.
     pub fn grant(&mut self, alloc: Global, lane: Lane, parts: &[Part]) -> Result<Lease, NoMemory>
         requires lane { lane < lanes_of self.old }
         requires free { stage_of self.old lane ≡ Free }
@@ -99,10 +101,11 @@ impl Keeper {
         let items = Parts::of(alloc, parts)?;
         let pool = Arc::try_clone(&self.pool)?;
         let len = total_len(parts);
+        let samples = copy_parts(alloc, &self.frames, parts, len as usize)?;
         store_hint(self.pool.steps(), &mut self.seat, sizes, lane.0, 0);
         reserve_lane(self.pool.steps(), &mut self.seat, sizes, lane.0, &items);
         let seat = hand_out(self.pool.steps(), &mut self.seat, sizes);
-        Ok(Lease::of(pool, seat, lane, items, len))
+        Ok(Lease::of(pool, seat, lane, samples, len))
     }
 
     /// Ends the lease and joins it, and its lane is free. A lease that was taken back before stays as it is.

@@ -1,14 +1,13 @@
-// A lease of some parts of a pool's frames.
+// A lease of the samples of some parts of a pool's frames.
 ghost use Rattle.std.specs.Prelude.{true, false, ◌≡◌, ℕ, ◌+◌, ◌-◌, ◌*◌, ◌/◌, ◌<◌, ◌≤◌, ◌^◌, [], ◌++◌, length, take, drop, min, slice_index, slice_range, MatchOption};
 ghost use Rattle.std.specs.Arc.{arc_value};
 ghost use Rattle.frame_pool.specs.Words.{total};
 ghost use Rattle.frame_pool.specs.Steps.{IsLease, lease_view};
 ghost use Rattle.frame_pool.specs.Pool.{AreParts, LeaseIs, GivesUp, with_look, spent};
 
-use crate::copying::copy_samples;
 use crate::pool::Pool;
 use crate::steps::{Place, end_lease, load_hint};
-use crate::views::{Part, Parts};
+use crate::views::Part;
 use std::marker::Model;
 use std::sync::Arc;
 use voice_units::Lane;
@@ -19,7 +18,7 @@ pub struct Lease {
     pool: Arc<Pool>,
     seat: Option<Place>,
     lane: Lane,
-    parts: Parts,
+    samples: Vec<u8>,
     len: u32,
     live: bool,
 }
@@ -31,9 +30,9 @@ impl Model for Lease {
 
     ghost Value = { LeaseState };
 
-    ghost view = { λ x. record { pool = arc_value x.pool; lane = x.lane; len = x.len; live = x.live; taken = is_none x.seat; parts = (lease_view_in x.seat).parts; samples = (lease_view_in x.seat).samples; hinted = (lease_view_in x.seat).hinted; looks = (lease_view_in x.seat).looks } };
+    ghost view = { λ x. record { pool = arc_value x.pool; lane = x.lane; len = x.len; live = x.live; taken = is_none x.seat; parts = (lease_view_in x.seat).parts; samples = x.samples.items; hinted = (lease_view_in x.seat).hinted; looks = (lease_view_in x.seat).looks } };
 
-    ghost invariant = { λ x. LeaseOf (arc_value x.pool) x.lane x.len x.live x.parts x.seat };
+    ghost invariant = { λ x. LeaseOf (arc_value x.pool) x.lane x.len x.live x.samples.items x.seat };
 }
 
 // The sum of the parts' lengths.
@@ -86,19 +85,9 @@ impl Lease {
         ensures rest { drop result out.new ≡ drop result out.old }
         ensures same { self.new ≡ self.old }
     {
-        let sizes = self.pool.sizes();
         let n = out.len().min((self.len - at) as usize);
-        let Some(seat) = &mut self.seat else {
-            unreachable!()
-        };
-        copy_samples(
-            self.pool.steps(),
-            seat,
-            sizes,
-            self.parts.as_slice(),
-            at as usize,
-            &mut out[..n],
-        );
+        let at = at as usize;
+        out[..n].copy_from_slice(&self.samples[at..at + n]);
         n
     }
 
@@ -132,23 +121,25 @@ impl Lease {
         }
     }
 
-    // Takes the seat out, once the lease is not live.
+    // Takes the seat out, once the lease is not live, and lets the samples go.
     pub(crate) fn give_up(&mut self) -> Option<Place>
         ensures { MatchOption result ((self.old.taken ≡ true) × (self.new ≡ self.old)) (λ s. (self.old.taken ≡ false) × (self.new ≡ spent self.old) × GivesUp self.old s) }
     {
         self.release();
-        self.seat.take()
+        let seat = self.seat.take()?;
+        self.samples.clear();
+        Some(seat)
     }
 
-    pub(crate) fn of(pool: Arc<Pool>, seat: Place, lane: Lane, parts: Parts, len: u32) -> Lease
-        requires { LeaseIs (arc_value pool) lane len true parts seat }
-        ensures { result ≡ record { pool = arc_value pool; lane = lane; len = len; live = true; taken = false; parts = (lease_view seat.me.0).parts; samples = (lease_view seat.me.0).samples; hinted = (lease_view seat.me.0).hinted; looks = (lease_view seat.me.0).looks } }
+    pub(crate) fn of(pool: Arc<Pool>, seat: Place, lane: Lane, samples: Vec<u8>, len: u32) -> Lease
+        requires { LeaseIs (arc_value pool) lane len true samples.items seat }
+        ensures { result ≡ record { pool = arc_value pool; lane = lane; len = len; live = true; taken = false; parts = (lease_view seat.me.0).parts; samples = samples.items; hinted = (lease_view seat.me.0).hinted; looks = (lease_view seat.me.0).looks } }
     {
         Lease {
             pool,
             seat: Some(seat),
             lane,
-            parts,
+            samples,
             len,
             live: true,
         }

@@ -1,7 +1,6 @@
-//! Frames of samples that one keeper fills and that leases read, while other threads fill and read on.
+//! Frames of samples that one keeper fills. A lease has a copy of its samples, so it reads them on another thread, whatever the keeper fills meanwhile.
 #![tactic(auto)]
 
-mod copying;
 mod frames;
 mod keeper;
 mod lease;

@@ -1,11 +1,12 @@
-// The pool, which threads share.
-ghost use Rattle.std.specs.Prelude.{◌≡◌, ℕ, ◌+◌, ◌*◌, ◌/◌, ◌%◌, ◌<◌, ◌≤◌, [], IfOk};
+// The pool, which threads share, and its keeper.
+ghost use Rattle.std.specs.Prelude.{◌≡◌, ℕ, ◌*◌, ◌%◌, ◌≤◌, [], IfOk, replicate};
 ghost use Rattle.std.specs.Arc.{arc_value};
-ghost use Rattle.frame_pool.specs.Words.{first_frame, frame_words};
+ghost use Rattle.frame_pool.specs.Words.{word_count};
 ghost use Rattle.frame_pool.specs.Rule.{opened};
 ghost use Rattle.frame_pool.specs.Pool.{IsSized};
 ghost use Rattle.frame_pool.specs.declared.views.View.TheVariants.{Keeper as AsKeeper};
 
+use crate::frames::blank_frames;
 use crate::keeper::Keeper;
 use crate::plays::LeaseRule;
 use crate::steps::{Place, Steps};
@@ -18,7 +19,7 @@ use voice_units::NoMemory;
 
 pub(crate) type Words = Table<Parts, View, Sizes, LeaseRule, Global>;
 
-/// The frames of all lanes, which threads share. To a contract it is which pool it is, and its sizes.
+/// What the keeper and the leases share: a word and a hint word of each lane. To a contract it is which pool it is, and its sizes.
 #[derive(Drop)]
 pub struct Pool {
     table: Words,
@@ -26,15 +27,15 @@ pub struct Pool {
 }
 
 impl Model for Pool {
-    ghost use Rattle.std.specs.Prelude.{◌≡◌, ◌+◌};
-    ghost use Rattle.frame_pool.specs.Words.{first_frame, frame_words};
+    ghost use Rattle.std.specs.Prelude.{◌≡◌};
+    ghost use Rattle.frame_pool.specs.Words.{word_count};
     ghost use Rattle.frame_pool.specs.Pool.{Identity, IsSized};
 
     ghost Value = { Identity };
 
     ghost view = { λ p. record { id = p.table.shared.table_id; sizes = p.sizes } };
 
-    ghost invariant = { λ p. IsSized p.sizes × (p.table.shared.table_id.words ≡ first_frame p.sizes.lanes + frame_words p.sizes) };
+    ghost invariant = { λ p. IsSized p.sizes × (p.table.shared.table_id.words ≡ word_count p.sizes.lanes) };
 }
 
 impl Pool {
@@ -47,19 +48,20 @@ impl Pool {
 
     pub(crate) fn steps(&self) -> &Steps
         ensures pool { result.now.table_id ≡ self.now.id }
-        ensures words { result.now.table_id.words ≡ first_frame self.now.sizes.lanes + frame_words self.now.sizes }
+        ensures words { result.now.table_id.words ≡ word_count self.now.sizes.lanes }
     {
         &self.table.shared
     }
 }
 
 impl Pool {
-    /// A pool whose lanes are all free, and its keeper.
+    /// A pool whose lanes are all free and whose frames are all 0, and its keeper.
     pub fn new(alloc: Global, lanes: u16, block: u32) -> Result<(Arc<Pool>, Keeper), NoMemory>
         requires lanes { (1 ≤ lanes) × (lanes ≤ 16) }
         requires block { (block % 8 ≡ 0) × (8 ≤ block) × (block ≤ 8192) }
         ensures pool { IfOk result (λ r. r.1.pool ≡ arc_value r.0) }
         ensures sizes { IfOk result (λ r. (r.1.pool.sizes.lanes ≡ lanes) × (r.1.pool.sizes.block ≡ block)) }
+        ensures frames { IfOk result (λ r. r.1.frames ≡ replicate (4 * lanes) (replicate block 0)) }
         ensures free { IfOk result (λ r. r.1.view ≡ opened (record { lanes = lanes; block = block })) }
     {
         let sizes = Sizes { lanes, block };
@@ -67,7 +69,8 @@ impl Pool {
         let Ok(pool) = Arc::new(alloc, Pool { table, sizes }) else {
             return Err(NoMemory);
         };
-        let keeper = Keeper::of(Arc::try_clone(&pool)?, seat);
+        let frames = blank_frames(alloc, 4 * usize::from(lanes), block as usize)?;
+        let keeper = Keeper::of(Arc::try_clone(&pool)?, frames, seat);
         Ok((pool, keeper))
     }
 }
@@ -75,10 +78,9 @@ impl Pool {
 fn lay(alloc: Global, sizes: Sizes) -> Result<(Words, Place), NoMemory>
     requires { IsSized sizes }
     ensures place { IfOk result (λ r. (r.1.table_id ≡ r.0.shared.table_id) × (r.1.id ≡ 0) × (r.1.me ≡ (AsKeeper (opened sizes), []))) }
-    ensures words { IfOk result (λ r. r.0.shared.table_id.words ≡ first_frame sizes.lanes + frame_words sizes) }
+    ensures words { IfOk result (λ r. r.0.shared.table_id.words ≡ word_count sizes.lanes) }
 {
     let lanes = sizes.lanes as usize;
-    let count = 2 * lanes + 1 + 4 * lanes * (sizes.block as usize / 8);
-    let words = vec![in alloc; 0; count]?;
+    let words = vec![in alloc; 0; 2 * lanes + 1]?;
     Ok(Table::of_words(alloc, words.as_slice(), &sizes)?)
 }

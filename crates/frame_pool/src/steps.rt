@@ -1,14 +1,12 @@
 // The steps on the pool's words, one function for each kind.
 ghost use Rattle.std.specs.Prelude.{true, false, ◌≡◌, ℕ, ◌+◌, ◌*◌, ◌/◌, ◌%◌, ◌<◌, ◌≤◌, [], IfOk};
-ghost use Rattle.frame_pool.specs.Words.{first_frame, frame_words};
+ghost use Rattle.frame_pool.specs.Words.{word_count};
 ghost use Rattle.frame_pool.specs.Rule.{opened};
-ghost use Rattle.frame_pool.specs.Steps.{IsKeeper, keeper_view, lease_view, IsLease, IsReserved, IsSpareWord, filled, hinted, looked, reserved, freed, lane_at, handed, leased, joined, listened, dropped, Shows, Tells};
+ghost use Rattle.frame_pool.specs.Steps.{IsKeeper, keeper_view, lease_view, IsLease, IsReserved, hinted, looked, reserved, freed, lane_at, handed, leased, joined, listened, dropped, Tells};
 ghost use Rattle.frame_pool.specs.declared.views.View.TheVariants.{Keeper, Lease};
 ghost use Rattle.frame_pool.specs.declared.views.Stage.TheVariants.{Free};
 
-use crate::plays::{
-    End, Fill, FreeLane, HandOut, Hint, LeaseRule, Listen, Look, Read, Reserve, TakeBack,
-};
+use crate::plays::{End, FreeLane, HandOut, Hint, LeaseRule, Listen, Look, Reserve, TakeBack};
 use crate::views::{Parts, Sizes, View};
 use atomic_table::{Seat, Shared, Table};
 use std::alloc::Global;
@@ -18,21 +16,9 @@ pub(crate) type Steps = Shared<Parts, View, Sizes, LeaseRule>;
 
 pub(crate) type Place = Seat<Parts, View>;
 
-// Stores the word `p` of the frames.
-pub(crate) fn store_frame(steps: &Steps, seat: &mut Place, sizes: Sizes, p: usize, new: u64)
-    requires seat { (seat.old.table_id ≡ steps.now.table_id) × (steps.now.table_id.words ≡ first_frame sizes.lanes + frame_words sizes) }
-    requires view { IsKeeper sizes seat.old.id seat.old.me }
-    requires word { p < frame_words sizes }
-    requires spare { IsSpareWord (keeper_view seat.old.me.0) p }
-    ensures seat { (seat.new.table_id ≡ seat.old.table_id) × (seat.new.id ≡ seat.old.id) }
-    ensures view { seat.new.me ≡ (Keeper (filled (keeper_view seat.old.me.0) p new), []) }
-{
-    steps.store::<Fill>(seat, 2 * sizes.lanes as usize + 1 + p, new);
-}
-
 // Stores a lane's hint word.
 pub(crate) fn store_hint(steps: &Steps, seat: &mut Place, sizes: Sizes, lane: u16, new: u64)
-    requires seat { (seat.old.table_id ≡ steps.now.table_id) × (steps.now.table_id.words ≡ first_frame sizes.lanes + frame_words sizes) }
+    requires seat { (seat.old.table_id ≡ steps.now.table_id) × (steps.now.table_id.words ≡ word_count sizes.lanes) }
     requires view { IsKeeper sizes seat.old.id seat.old.me }
     requires lane { lane < sizes.lanes }
     requires bit { new ≤ 1 }
@@ -44,7 +30,7 @@ pub(crate) fn store_hint(steps: &Steps, seat: &mut Place, sizes: Sizes, lane: u1
 
 // Loads a lane's word.
 pub(crate) fn load_lane(steps: &Steps, seat: &mut Place, sizes: Sizes, lane: u16) -> u64
-    requires seat { (seat.old.table_id ≡ steps.now.table_id) × (steps.now.table_id.words ≡ first_frame sizes.lanes + frame_words sizes) }
+    requires seat { (seat.old.table_id ≡ steps.now.table_id) × (steps.now.table_id.words ≡ word_count sizes.lanes) }
     requires view { IsKeeper sizes seat.old.id seat.old.me }
     requires lane { lane < sizes.lanes }
     ensures seat { (seat.new.table_id ≡ seat.old.table_id) × (seat.new.id ≡ seat.old.id) }
@@ -55,7 +41,7 @@ pub(crate) fn load_lane(steps: &Steps, seat: &mut Place, sizes: Sizes, lane: u16
 
 // Reserves a lane for parts.
 pub(crate) fn reserve_lane(steps: &Steps, seat: &mut Place, sizes: Sizes, lane: u16, parts: &Parts)
-    requires seat { (seat.old.table_id ≡ steps.now.table_id) × (steps.now.table_id.words ≡ first_frame sizes.lanes + frame_words sizes) }
+    requires seat { (seat.old.table_id ≡ steps.now.table_id) × (steps.now.table_id.words ≡ word_count sizes.lanes) }
     requires view { IsKeeper sizes seat.old.id seat.old.me }
     requires lane { lane < sizes.lanes }
     requires free { ((lane_at (keeper_view seat.old.me.0) lane).stage ≡ Free) × ((lane_at (keeper_view seat.old.me.0) lane).hint ≡ 0) }
@@ -67,7 +53,7 @@ pub(crate) fn reserve_lane(steps: &Steps, seat: &mut Place, sizes: Sizes, lane: 
 
 // Stores 0 into the word of a free lane. It tells what was found as a lease was joined.
 pub(crate) fn free_lane(steps: &Steps, seat: &mut Place, sizes: Sizes, lane: u16)
-    requires seat { (seat.old.table_id ≡ steps.now.table_id) × (steps.now.table_id.words ≡ first_frame sizes.lanes + frame_words sizes) }
+    requires seat { (seat.old.table_id ≡ steps.now.table_id) × (steps.now.table_id.words ≡ word_count sizes.lanes) }
     requires view { IsKeeper sizes seat.old.id seat.old.me }
     requires lane { lane < sizes.lanes }
     requires free { (lane_at (keeper_view seat.old.me.0) lane).stage ≡ Free }
@@ -80,7 +66,7 @@ pub(crate) fn free_lane(steps: &Steps, seat: &mut Place, sizes: Sizes, lane: u16
 
 // Cuts off the lease of the lane that was reserved last.
 pub(crate) fn hand_out(steps: &Steps, seat: &mut Place, sizes: Sizes) -> Place
-    requires seat { (seat.old.table_id ≡ steps.now.table_id) × (steps.now.table_id.words ≡ first_frame sizes.lanes + frame_words sizes) }
+    requires seat { (seat.old.table_id ≡ steps.now.table_id) × (steps.now.table_id.words ≡ word_count sizes.lanes) }
     requires view { IsKeeper sizes seat.old.id seat.old.me }
     requires lane { (keeper_view seat.old.me.0).latest < sizes.lanes }
     requires reserved { IsReserved (lane_at (keeper_view seat.old.me.0) (keeper_view seat.old.me.0).latest).stage }
@@ -93,7 +79,7 @@ pub(crate) fn hand_out(steps: &Steps, seat: &mut Place, sizes: Sizes) -> Place
 
 // Joins a lease that is not live.
 pub(crate) fn join(steps: &Steps, seat: &mut Place, sizes: Sizes, lease: Place)
-    requires seat { (seat.old.table_id ≡ steps.now.table_id) × (steps.now.table_id.words ≡ first_frame sizes.lanes + frame_words sizes) × (lease.table_id ≡ steps.now.table_id) }
+    requires seat { (seat.old.table_id ≡ steps.now.table_id) × (steps.now.table_id.words ≡ word_count sizes.lanes) × (lease.table_id ≡ steps.now.table_id) }
     requires view { IsKeeper sizes seat.old.id seat.old.me }
     requires lease { IsLease sizes lease.me }
     requires over { (lease_view lease.me.0).live ≡ false }
@@ -103,21 +89,9 @@ pub(crate) fn join(steps: &Steps, seat: &mut Place, sizes: Sizes, lease: Place)
     steps.join_seat::<TakeBack>(seat, lease);
 }
 
-// Loads the word `p` of the frames for a lease.
-pub(crate) fn load_frame(steps: &Steps, seat: &mut Place, sizes: Sizes, p: usize) -> u64
-    requires seat { (seat.old.table_id ≡ steps.now.table_id) × (steps.now.table_id.words ≡ first_frame sizes.lanes + frame_words sizes) }
-    requires view { IsLease sizes seat.old.me }
-    requires live { (lease_view seat.old.me.0).live ≡ true }
-    requires word { p < frame_words sizes }
-    ensures seat { (seat.new.table_id ≡ seat.old.table_id) × (seat.new.me ≡ seat.old.me) }
-    ensures shows { Shows (lease_view seat.old.me.0) p result }
-{
-    steps.load::<Read>(seat, 2 * sizes.lanes as usize + 1 + p)
-}
-
 // Loads the hint word of the lease's lane.
 pub(crate) fn load_hint(steps: &Steps, seat: &mut Place, sizes: Sizes, lane: u16) -> u64
-    requires seat { (seat.old.table_id ≡ steps.now.table_id) × (steps.now.table_id.words ≡ first_frame sizes.lanes + frame_words sizes) }
+    requires seat { (seat.old.table_id ≡ steps.now.table_id) × (steps.now.table_id.words ≡ word_count sizes.lanes) }
     requires view { IsLease sizes seat.old.me }
     requires lane { ((lease_view seat.old.me.0).lane ≡ lane) × (lane < sizes.lanes) }
     ensures seat { seat.new.table_id ≡ seat.old.table_id }
@@ -129,7 +103,7 @@ pub(crate) fn load_hint(steps: &Steps, seat: &mut Place, sizes: Sizes, lane: u16
 
 // Swaps the word of the lease's lane to 0.
 pub(crate) fn end_lease(steps: &Steps, seat: &mut Place, sizes: Sizes, lane: u16)
-    requires seat { (seat.old.table_id ≡ steps.now.table_id) × (steps.now.table_id.words ≡ first_frame sizes.lanes + frame_words sizes) }
+    requires seat { (seat.old.table_id ≡ steps.now.table_id) × (steps.now.table_id.words ≡ word_count sizes.lanes) }
     requires view { IsLease sizes seat.old.me }
     requires lane { ((lease_view seat.old.me.0).lane ≡ lane) × (lane < sizes.lanes) }
     ensures seat { seat.new.table_id ≡ seat.old.table_id }

@@ -7,7 +7,8 @@ use voice_units::{Lane, NoMemory};
 #[test]
 fn a_frame_is_granted_again(rt: HostRuntime) -> Result<(), NoMemory> {
     let (_pool, mut keeper) = Pool::new(rt.alloc(), 1, 8)?;
-    keeper.fill(0, b"abcdefgh");
+    let mut room = Vec::from_slice(rt.alloc(), b"abcdefgh")?;
+    keeper.fill(0, &mut room);
     let parts = [Part {
         frame: 0,
         from: 2,
@@ -27,7 +28,8 @@ fn a_frame_is_granted_again(rt: HostRuntime) -> Result<(), NoMemory> {
     lease.release();
     let over = keeper.observe(Lane(0));
     assert!(rt; over && !lease.live() && !lease.taken_back());
-    keeper.fill(0, b"ABCDEFGH");
+    room.copy_from_slice(b"ABCDEFGH");
+    keeper.fill(0, &mut room);
     keeper.take_back(&mut lease);
     assert!(rt; lease.taken_back() && !lease.live() && lease.len() == 5);
     keeper.take_back(&mut lease);
@@ -48,12 +50,14 @@ fn copied<const N: usize>(lease: &mut Lease, at: u32) -> [u8; N]
     out
 }
 
-// Each copy begins and ends somewhere in a word, and goes over several parts.
+// Each copy goes over several parts.
 #[test]
 fn parts_are_copied_in_order(rt: HostRuntime) -> Result<(), NoMemory> {
     let (_pool, mut keeper) = Pool::new(rt.alloc(), 2, 24)?;
-    keeper.fill(1, b"abcdefghijklmnopqrstuvwx");
-    keeper.fill(6, b"ABCDEFGHIJKLMNOPQRSTUVWX");
+    let mut room = Vec::from_slice(rt.alloc(), b"abcdefghijklmnopqrstuvwx")?;
+    keeper.fill(1, &mut room);
+    room.copy_from_slice(b"ABCDEFGHIJKLMNOPQRSTUVWX");
+    keeper.fill(6, &mut room);
     let parts = [
         Part {
             frame: 1,

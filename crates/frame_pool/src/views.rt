@@ -79,7 +79,6 @@ pub struct LaneState {
 pub struct KeeperView {
     pub sizes: Sizes,
     pub latest: u64,
-    pub mirror: LinkedList<u64>,
     pub lane_states: LinkedList<LaneState>,
 }
 
@@ -88,7 +87,6 @@ pub struct LeaseView {
     pub sizes: Sizes,
     pub lane: u64,
     pub parts: LinkedList<Part>,
-    pub samples: LinkedList<u8>,
     pub live: bool,
     pub hinted: bool,
     pub looks: LinkedList<u64>,

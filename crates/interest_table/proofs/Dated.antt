@@ -1,10 +1,11 @@
 -- Expiries rise by their places.
-use Rattle.std.proofs.Common.{◌≡◌, ◌≢◌, ℕ, ◌<◌, ◌≤◌, ◌+◌, ◌^◌, suc, zero, List, [], ◌∷◌, map, take, filter, length, ap, ◌∙◌, sym, refl, subst, cond, Bool, true, false, ◌==◌, get_or, arith}
-use Rattle.std.proofs.lemmas.Bool.{eqb-true, eqb-false, ltb-true, lt-ltb, leb-true, le-leb}
+use Rattle.std.proofs.Common.{◌≡◌, ◌≢◌, ℕ, ◌<◌, ◌≤◌, ◌+◌, ◌^◌, suc, zero, ◌*◌, List, [], ◌∷◌, map, filter, length, ap, ◌∙◌, sym, refl, subst, cond, Bool, true, false, ◌==◌, get_or, arith}
+use Rattle.std.proofs.lemmas.Bool.{eqb-true, eqb-false, ltb-true, lt-ltb, lt-leb, leb-false}
 use Rattle.std.specs.Prelude.{nat_lt, nat_le, insert, remove}
-use Rattle.std.specs.List.Sorted.{IsPartitionPoint, IsPartitionedBy}
+use Rattle.std.specs.List.Sorted.{IsPartitionedBy}
+use Rattle.counted_row.specs.Row.{passing}
 use Rattle.interest_table.specs.declared.expiries.Expiry.{Expiry}
-use Rattle.interest_table.specs.Inside.{place, place_of, among, without, Rises, AllFit, AreOrdered, IsEntered, IsTaken}
+use Rattle.interest_table.specs.Inside.{place, place_of, among, without, Rises, AllFit, AreOrdered, IsEntered, IsTaken, stamps_due, due_front}
 use Rattle.interest_table.proofs.Found.{both_ways}
 use Rattle.interest_table.proofs.Listed.{absent_stay, low_absent, rises_without, not_less}
 
@@ -41,57 +42,39 @@ pub placed_before : (c low top : ℕ) (xs : List Expiry) → Rises low (map plac
 placed_before c low top [] h = λ i j d le within e. absurd (omega (arith, within))
 placed_before c low top (x ∷ xs) h = before_at c low top x xs h (placed_before c (place_of x + 1) top xs h.1)
 
-fit_at : (es : List Expiry) (i : ℕ) (d : Expiry) → AllFit es → i < length es → (get_or es i d).stamp < 2 ^ 64
-fit_at [] i d h within = absurd (omega (arith, within))
-fit_at (e ∷ es) zero d h within = h.1
-fit_at (e ∷ es) (suc i) d h within = fit_at es i d h.2 (omega (arith, within))
+-- ---- the due ones in front
 
-due_at : (now low top : ℕ) (x : Expiry) (xs : List Expiry) → Rises low (map place_of (x ∷ xs)) top → AllFit (x ∷ xs) → IsPartitionedBy (λ y. nat_le y.moment now) xs → IsPartitionedBy (λ y. nat_le y.moment now) (x ∷ xs)
-due_at now low top x xs h fit rest zero zero d le within e = e
-due_at now low top x xs h fit rest zero (suc j) d le within e =
-    let least = place_least (place_of x + 1) top xs j d h.1 (omega (arith, within)) in
-    let fits = fit_at xs j d fit.2 (omega (arith, within)) in
-    let most = leb-true (get_or xs j d).moment now e in
-    le-leb x.moment now (omega (arith, least, most, fits, fit.1))
-due_at now low top x xs h fit rest (suc i) zero d le within e = absurd (omega (arith, le))
-due_at now low top x xs h fit rest (suc i) (suc j) d le within e = rest i j d (omega (arith, le)) (omega (arith, within)) e
+none_due : (now low top : ℕ) (xs : List Expiry) → (now + 1) * 2 ^ 64 ≤ low → Rises low (map place_of xs) top → AllFit xs → [] ≡ stamps_due now xs
+none_due now low top [] above h fit = refl
+none_due now low top (x ∷ xs) above h fit =
+    none_due now (place_of x + 1) top xs (omega (arith, above, h.0)) h.1 fit.2
+    ∙ ap (λ b. map (λ (e : Expiry). e.stamp) (cond b (x ∷ filter (λ (e : Expiry). nat_le e.moment now) xs) (filter (λ (e : Expiry). nat_le e.moment now) xs))) (sym (lt-leb x.moment now (omega (arith, above, h.0, fit.1))))
 
-pub due_before : (now low top : ℕ) (xs : List Expiry) → Rises low (map place_of xs) top → AllFit xs → IsPartitionedBy (λ y. nat_le y.moment now) xs
-due_before now low top [] h fit = λ i j d le within e. absurd (omega (arith, within))
-due_before now low top (x ∷ xs) h fit = due_at now low top x xs h fit (due_before now (place_of x + 1) top xs h.1 fit.2)
-
--- those in front of a place pass a test, and those behind fail it
-pub front_passes : (p : Expiry → Bool) (xs : List Expiry) (n : ℕ) → IsPartitionPoint (λ y. p y ≡ true) (λ y. p y ≡ false) xs n → take n xs ≡ filter p xs
-front_passes p [] zero at = refl
-front_passes p [] (suc n) at = refl
-front_passes p (x ∷ xs) zero at =
-    front_passes p xs zero ((λ i d low high. absurd (omega (arith, high))), (λ i d low high. at.1 (suc i) d (omega arith) (omega (arith, high))))
-    ∙ ap (λ b. cond b (x ∷ filter p xs) (filter p xs)) (sym (at.1 0 x (omega arith) (omega arith)))
-front_passes p (x ∷ xs) (suc n) at =
-    ap (λ l. x ∷ l) (front_passes p xs n ((λ i d low high. at.0 (suc i) d (omega (arith, low)) (omega (arith, high))), (λ i d low high. at.1 (suc i) d (omega (arith, low)) (omega (arith, high)))))
-    ∙ ap (λ b. cond b (x ∷ filter p xs) (filter p xs)) (sym (at.0 0 x (omega arith) (omega arith)))
+-- where expiries rise, none is due behind one that is not
+pub due_ahead : (now low top : ℕ) (xs : List Expiry) → Rises low (map place_of xs) top → AllFit xs → due_front now xs ≡ stamps_due now xs
+due_ahead now low top [] h fit = refl
+due_ahead now low top (x ∷ xs) h fit = by (nat_le x.moment now) refl (due_ahead now (place_of x + 1) top xs h.1 fit.2)
+  where
+    by : (b : Bool) → nat_le x.moment now ≡ b → due_front now xs ≡ stamps_due now xs → cond b (x.stamp ∷ due_front now xs) [] ≡ map (λ (e : Expiry). e.stamp) (cond b (x ∷ filter (λ (e : Expiry). nat_le e.moment now) xs) (filter (λ (e : Expiry). nat_le e.moment now) xs))
+    by true e rest = ap (λ l. x.stamp ∷ l) rest
+    by false e rest = let above = leb-false x.moment now e in none_due now (place_of x + 1) top xs (omega (arith, above)) h.1 fit.2
 
 -- ---- one goes
 
-taken_place : (c low top : ℕ) (ts : List Expiry) (p : ℕ) → Rises low (map place_of ts) top → among c (map place_of ts) ≡ true → IsPartitionPoint (λ y. nat_lt (place_of y) c ≡ true) (λ y. nat_lt (place_of y) c ≡ false) ts p → map place_of (remove ts p) ≡ without c (map place_of ts)
-taken_place c low top [] p h in_it at = cc
-taken_place c low top (t ∷ ts) zero h in_it at = by (c == place_of t) refl in_it
+taken_place : (c low top : ℕ) (ts : List Expiry) → Rises low (map place_of ts) top → among c (map place_of ts) ≡ true → map place_of (remove ts (passing (λ y. nat_lt (place_of y) c) ts)) ≡ without c (map place_of ts)
+taken_place c low top [] h in_it = cc
+taken_place c low top (t ∷ ts) h in_it = by (nat_lt (place_of t) c) refl (c == place_of t) refl in_it (λ k. taken_place c (place_of t + 1) top ts h.1 k)
   where
-    by : (b : Bool) → (c == place_of t) ≡ b → cond b true (among c (map place_of ts)) ≡ true → map place_of ts ≡ cond b (without c (map place_of ts)) (place_of t ∷ without c (map place_of ts))
-    by true e k = let same : c ≡ place_of t = eqb-true c (place_of t) e in sym (absent_stay c (map place_of ts) (low_absent c (place_of t + 1) top (map place_of ts) (omega (arith, same)) h.1))
-    by false e k =
-        let above : c ≤ place_of t = not_less (place_of t) c (at.1 0 t (omega arith) (omega arith)) in
+    by : (less : Bool) → nat_lt (place_of t) c ≡ less → (b : Bool) → (c == place_of t) ≡ b → cond b true (among c (map place_of ts)) ≡ true
+        → (among c (map place_of ts) ≡ true → map place_of (remove ts (passing (λ y. nat_lt (place_of y) c) ts)) ≡ without c (map place_of ts))
+        → map place_of (remove (t ∷ ts) (cond less (suc (passing (λ y. nat_lt (place_of y) c) ts)) 0)) ≡ cond b (without c (map place_of ts)) (place_of t ∷ without c (map place_of ts))
+    by true less true e k rest = let same : c ≡ place_of t = eqb-true c (place_of t) e in absurd (omega (arith, same, ltb-true (place_of t) c less))
+    by true less false e k rest = ap (λ l. place_of t ∷ l) (rest k)
+    by false less true e k rest = let same : c ≡ place_of t = eqb-true c (place_of t) e in sym (absent_stay c (map place_of ts) (low_absent c (place_of t + 1) top (map place_of ts) (omega (arith, same)) h.1))
+    by false less false e k rest =
+        let above : c ≤ place_of t = not_less (place_of t) c less in
         let none : among c (map place_of ts) ≡ false = low_absent c (place_of t + 1) top (map place_of ts) (omega (arith, above)) h.1 in
         cc
-taken_place c low top (t ∷ ts) (suc p) h in_it at = by (c == place_of t) refl in_it
-    (λ k. taken_place c (place_of t + 1) top ts p h.1 k (λ i d low high. at.0 (suc i) d (omega (arith, low)) (omega (arith, high)), λ i d low high. at.1 (suc i) d (omega (arith, low)) (omega (arith, high))))
-  where
-    less : place_of t < c
-    less = ltb-true (place_of t) c (at.0 0 t (omega arith) (omega arith))
-
-    by : (b : Bool) → (c == place_of t) ≡ b → cond b true (among c (map place_of ts)) ≡ true → (among c (map place_of ts) ≡ true → map place_of (remove ts p) ≡ without c (map place_of ts)) → place_of t ∷ map place_of (remove ts p) ≡ cond b (without c (map place_of ts)) (place_of t ∷ without c (map place_of ts))
-    by true e k rest = let same : c ≡ place_of t = eqb-true c (place_of t) e in absurd (omega (arith, same, less))
-    by false e k rest = ap (λ l. place_of t ∷ l) (rest k)
 
 fit_taken : (es : List Expiry) (p : ℕ) → AllFit es → AllFit (remove es p)
 fit_taken [] zero h = tt
@@ -99,39 +82,33 @@ fit_taken [] (suc p) h = tt
 fit_taken (e ∷ es) zero h = h.2
 fit_taken (e ∷ es) (suc p) h = (h.0, h.1, fit_taken es p h.2)
 
-pub one_taken : (gone : Expiry) (old new : List Expiry) (p : ℕ) → new ≡ remove old p → (AreOrdered old → IsPartitionPoint (λ y. nat_lt (place_of y) (place_of gone) ≡ true) (λ y. nat_lt (place_of y) (place_of gone) ≡ false) old p) → IsTaken gone old new
-one_taken gone old new p is at h in_it =
-    let left : map place_of new ≡ without (place_of gone) (map place_of old) = ap (map place_of) is ∙ taken_place (place_of gone) 0 (2 ^ 128) old p h.rising in_it (at h) in (
+pub one_taken : (gone : Expiry) (old new : List Expiry) → (AreOrdered old → new ≡ remove old (passing (λ y. nat_lt (place_of y) (place_of gone)) old)) → IsTaken gone old new
+one_taken gone old new taken h in_it =
+    let is = taken h in
+    let left : map place_of new ≡ without (place_of gone) (map place_of old) = ap (map place_of) is ∙ taken_place (place_of gone) 0 (2 ^ 128) old h.rising in_it in (
       record {
         rising = subst (λ l. Rises 0 l (2 ^ 128)) (sym left) (rises_without (place_of gone) 0 (2 ^ 128) (map place_of old) h.rising);
-        fit = subst AllFit (sym is) (fit_taken old p h.fit);
+        fit = subst AllFit (sym is) (fit_taken old (passing (λ y. nat_lt (place_of y) (place_of gone)) old) h.fit);
       },
       left,
     )
 
 -- ---- one comes
 
-rises_entered : (x : Expiry) (low top : ℕ) (ts : List Expiry) (p : ℕ) → Rises low (map place_of ts) top → low ≤ place_of x → place_of x < top → among (place_of x) (map place_of ts) ≡ false → p ≤ length ts → IsPartitionPoint (λ y. nat_lt (place_of y) (place_of x) ≡ true) (λ y. nat_lt (place_of y) (place_of x) ≡ false) ts p → Rises low (map place_of (insert ts p x)) top
-rises_entered x low top [] zero h above below new le at = (above, omega (arith, below))
-rises_entered x low top [] (suc p) h above below new le at = absurd (omega (arith, le))
-rises_entered x low top (t ∷ ts) zero h above below new le at = by (place_of x == place_of t) refl new
+rises_entered : (x : Expiry) (low top : ℕ) (ts : List Expiry) → Rises low (map place_of ts) top → low ≤ place_of x → place_of x < top → among (place_of x) (map place_of ts) ≡ false → Rises low (map place_of (insert ts (passing (λ y. nat_lt (place_of y) (place_of x)) ts) x)) top
+rises_entered x low top [] h above below new = (above, omega (arith, below))
+rises_entered x low top (t ∷ ts) h above below new = by (nat_lt (place_of t) (place_of x)) refl (place_of x == place_of t) refl new (λ least k. rises_entered x (place_of t + 1) top ts h.1 least below k)
   where
-    by : (b : Bool) → (place_of x == place_of t) ≡ b → cond b true (among (place_of x) (map place_of ts)) ≡ false → (low ≤ place_of x) × ((place_of x + 1 ≤ place_of t) × Rises (place_of t + 1) (map place_of ts) top)
-    by true e k = cc
-    by false e k =
-        let most : place_of x ≤ place_of t = not_less (place_of t) (place_of x) (at.1 0 t (omega arith) (omega arith)) in
+    by : (less : Bool) → nat_lt (place_of t) (place_of x) ≡ less → (b : Bool) → (place_of x == place_of t) ≡ b → cond b true (among (place_of x) (map place_of ts)) ≡ false
+        → (place_of t + 1 ≤ place_of x → among (place_of x) (map place_of ts) ≡ false → Rises (place_of t + 1) (map place_of (insert ts (passing (λ y. nat_lt (place_of y) (place_of x)) ts) x)) top)
+        → Rises low (map place_of (insert (t ∷ ts) (cond less (suc (passing (λ y. nat_lt (place_of y) (place_of x)) ts)) 0) x)) top
+    by true less true e k rest = cc
+    by true less false e k rest = let lower = ltb-true (place_of t) (place_of x) less in (h.0, rest (omega (arith, lower)) k)
+    by false less true e k rest = cc
+    by false less false e k rest =
+        let most : place_of x ≤ place_of t = not_less (place_of t) (place_of x) less in
         let apart : place_of x ≢ place_of t = eqb-false (place_of x) (place_of t) e in
         (above, (omega (arith, most, apart), h.1))
-rises_entered x low top (t ∷ ts) (suc p) h above below new le at =
-    let less = ltb-true (place_of t) (place_of x) (at.0 0 t (omega arith) (omega arith)) in (
-      h.0,
-      rises_entered x (place_of t + 1) top ts p h.1 (omega (arith, less)) below (absent_rest (place_of x == place_of t) (among (place_of x) (map place_of ts)) new) (omega (arith, le))
-          (λ i d low high. at.0 (suc i) d (omega (arith, low)) (omega (arith, high)), λ i d low high. at.1 (suc i) d (omega (arith, low)) (omega (arith, high))),
-    )
-  where
-    absent_rest : (b c : Bool) → cond b true c ≡ false → c ≡ false
-    absent_rest true c h = cc
-    absent_rest false c h = h
 
 among_entered : (q : ℕ) (x : Expiry) (ts : List Expiry) (p : ℕ) → p ≤ length ts → among q (map place_of (insert ts p x)) ≡ cond (q == place_of x) true (among q (map place_of ts))
 among_entered q x [] zero le = refl
@@ -151,11 +128,21 @@ fit_entered x [] (suc p) h fit le = absurd (omega (arith, le))
 fit_entered x (t ∷ ts) zero h fit le = (h.0, h.1, fit)
 fit_entered x (t ∷ ts) (suc p) h fit le = (fit.0, fit.1, fit_entered x ts p h fit.2 (omega (arith, le)))
 
-pub one_entered : (x : Expiry) (old new : List Expiry) (p : ℕ) → new ≡ insert old p x → p ≤ length old → (AreOrdered old → IsPartitionPoint (λ y. nat_lt (place_of y) (place_of x) ≡ true) (λ y. nat_lt (place_of y) (place_of x) ≡ false) old p) → IsEntered x old new
-one_entered x old new p is le at h fits apart = (
-  record {
-    rising = subst (λ l. Rises 0 (map place_of l) (2 ^ 128)) (sym is) (rises_entered x 0 (2 ^ 128) old p h.rising (omega arith) (omega (arith, fits.0, fits.1)) apart le (at h));
-    fit = subst AllFit (sym is) (fit_entered x old p fits h.fit le);
-  },
-  λ q. ap (λ l. among q (map place_of l)) is ∙ among_entered q x old p le,
-)
+passing_within : (p : Expiry → Bool) (xs : List Expiry) → passing p xs ≤ length xs
+passing_within p [] = omega arith
+passing_within p (x ∷ xs) = by (p x) (passing_within p xs)
+  where
+    by : (b : Bool) → passing p xs ≤ length xs → cond b (suc (passing p xs)) 0 ≤ length (x ∷ xs)
+    by true rest = omega (arith, rest)
+    by false rest = omega arith
+
+pub one_entered : (x : Expiry) (old new : List Expiry) → (AreOrdered old → new ≡ insert old (passing (λ y. nat_lt (place_of y) (place_of x)) old) x) → IsEntered x old new
+one_entered x old new entered h fits apart =
+    let is = entered h in
+    let le = passing_within (λ y. nat_lt (place_of y) (place_of x)) old in (
+      record {
+        rising = subst (λ l. Rises 0 (map place_of l) (2 ^ 128)) (sym is) (rises_entered x 0 (2 ^ 128) old h.rising (omega arith) (omega (arith, fits.0, fits.1)) apart);
+        fit = subst AllFit (sym is) (fit_entered x old (passing (λ y. nat_lt (place_of y) (place_of x)) old) fits h.fit le);
+      },
+      λ q. ap (λ l. among q (map place_of l)) is ∙ among_entered q x old (passing (λ y. nat_lt (place_of y) (place_of x)) old) le,
+    )

@@ -1,9 +1,7 @@
 -- Expiries of the rows that are due.
-use Rattle.std.proofs.Common.{◌≡◌, ℕ, ◌<◌, ◌≤◌, ◌+◌, ◌^◌, suc, zero, List, [], ◌∷◌, ◌++◌, map, take, drop, filter, length, not, ap, ap₂, ◌∙◌, sym, refl, subst, cond, Bool, true, false, ◌==◌, ◌&&◌, Option, Some, None, get_or, eq-eqb, arith}
+use Rattle.std.proofs.Common.{◌≡◌, ℕ, ◌<◌, ◌≤◌, ◌+◌, ◌^◌, suc, zero, List, [], ◌∷◌, ◌++◌, map, filter, length, not, ap, ap₂, ◌∙◌, sym, refl, subst, cond, Bool, true, false, ◌==◌, ◌&&◌, Option, Some, None, get_or, eq-eqb, arith}
 use Rattle.std.proofs.lemmas.Bool.{eqb-true, leb-true, le-leb}
 use Rattle.std.proofs.lemmas.List.Sorted.{sum_by-IsPermutation}
-use Rattle.std.proofs.lemmas.List.{take-append-le, map-append}
-use Rattle.std.proofs.Math.Seq.{take-add}
 use Rattle.std.proofs.lemmas.List.Recursion.{is_count_by}
 use Rattle.std.specs.List.Sorted.{IsPermutation, IsNonDecreasingBy}
 use Rattle.std.specs.Prelude.{nat_le, nat_eq, unwrap_or}
@@ -380,14 +378,6 @@ none_go now at [] h = refl
 none_go now at (t ∷ ts) h =
     ap (λ b. cond (not b) (entry_of at t ∷ filter (λ (e : ℕ × Row). not (is_expired now e.1)) (map (entry_of at) ts)) (filter (λ (e : ℕ × Row). not (is_expired now e.1)) (map (entry_of at) ts))) (h t (own_among t ts))
     ∙ ap (λ l. entry_of at t ∷ l) (none_go now at ts (λ s k. h s (or_true (s == t) (among s ts) k)))
-
--- ---- so many stamps in front
-
-pub stamps_more : (es run : List Expiry) (k n : ℕ) → drop k es ≡ run ++ drop (k + length run) es → n ≤ length run → map (λ (e : Expiry). e.stamp) (take k es) ++ map (λ (e : Expiry). e.stamp) (take n run) ≡ map (λ (e : Expiry). e.stamp) (take (k + n) es)
-stamps_more es run k n is within =
-    sym (map-append (λ (e : Expiry). e.stamp) (take k es) (take n run))
-    ∙ ap (λ l. map (λ (e : Expiry). e.stamp) (take k es ++ l)) (sym (ap (take n) is ∙ take-append-le n run (drop (k + length run) es) within))
-    ∙ ap (map (λ (e : Expiry). e.stamp)) (sym (take-add k n es))
 
 -- ---- what a list keeps with its expiries
 

@@ -83,11 +83,11 @@ kept_front at [] rest h = tt
 kept_front at (s ∷ ss) rest h = (h.0, kept_front at ss rest h.1)
 
 -- the stamps of a run have rows
-pub kept_run : (at : ℕ → Option Row) (ss run : List ℕ) (k : ℕ) → AllKept at ss → drop k ss ≡ run ++ drop (k + length run) ss → AllKept at run
+kept_run : (at : ℕ → Option Row) (ss run : List ℕ) (k : ℕ) → AllKept at ss → drop k ss ≡ run ++ drop (k + length run) ss → AllKept at run
 kept_run at ss run k h is = kept_front at run (drop (k + length run) ss) (subst (AllKept at) is (kept_rest at ss k h))
 
 -- the rows of a run come first
-pub run_first : (at : ℕ → Option Row) (ss run : List ℕ) (k : ℕ) → drop k ss ≡ run ++ drop (k + length run) ss → map (kept at) (drop k ss) ≡ map (kept at) run ++ map (kept at) (drop (k + length run) ss)
+run_first : (at : ℕ → Option Row) (ss run : List ℕ) (k : ℕ) → drop k ss ≡ run ++ drop (k + length run) ss → map (kept at) (drop k ss) ≡ map (kept at) run ++ map (kept at) (drop (k + length run) ss)
 run_first at ss run k is = ap (map (kept at)) is ∙ map-append (kept at) run (drop (k + length run) ss)
 
 pub run_within : (ss run rest : List ℕ) (k : ℕ) → k ≤ length ss → drop k ss ≡ run ++ rest → k + length run ≤ length ss
@@ -110,6 +110,18 @@ drop_all at (x ∷ xs) (suc k) h = drop_all at xs k (omega (arith, h))
 -- where no row is left, the keys so far are all
 pub none_left : (test : Row → Bool) (n : ℕ) (left : List Row) (keys all : List (List ℕ)) → left ≡ [] → keys ++ first_keys test n left ≡ all → keys ≡ all
 none_left test n left keys all e so_far = sym (append-nil keys) ∙ ap (λ l. keys ++ map (λ (row : Row). row.key) l) (sym (take_none n)) ∙ ap (λ l. keys ++ first_keys test n l) (sym e) ∙ so_far
+
+-- where no more fit, the keys so far are all
+pub none_fit : (test : Row → Bool) (n : ℕ) (left : List Row) (keys all : List (List ℕ)) → n ≡ 0 → keys ++ first_keys test n left ≡ all → keys ≡ all
+none_fit test n left keys all e so_far = sym (append-nil keys) ∙ ap (λ k. keys ++ first_keys test k left) (sym e) ∙ so_far
+
+-- the keys once those of a run were put behind them
+pub run_taken : (test : Row → Bool) (at : ℕ → Option Row) (ss run : List ℕ) (k : ℕ) (keys new all : List (List ℕ)) → AllKept at ss → drop k ss ≡ run ++ drop (k + length run) ss
+    → (AllKept at run → (left : List Row) → new ++ first_keys test (65535 - length new) left ≡ keys ++ first_keys test (65535 - length keys) (map (kept at) run ++ left))
+    → keys ++ first_keys test (65535 - length keys) (map (kept at) (drop k ss)) ≡ all → new ++ first_keys test (65535 - length new) (map (kept at) (drop (k + length run) ss)) ≡ all
+run_taken test at ss run k keys new all h is pushed so_far =
+    pushed (kept_run at ss run k h is) (map (kept at) (drop (k + length run) ss))
+    ∙ ap (λ l. keys ++ first_keys test (65535 - length keys) l) (sym (run_first at ss run k is)) ∙ so_far
 
 -- ---- a census
 

@@ -15,7 +15,7 @@
 --     IsEntered, IsTaken      one expiry more;  one fewer
 --     IsGained, IsLost      the expiries once a row came under a stamp;  once it went
 --     Leads, NoneDue      the first expiry is of this stamp and is due;  no expiry is due
---     stamps_due      the stamps of the expiries that are due
+--     stamps_due, due_front      the stamps of the expiries that are due;  of those in front of the first that is not
 --     Grows low numbers      numbers do not fall, from low on
 --     times      how often a number stands in a list
 --     IsDueStamps now expiries stamps      the stamps of the expiries that are due, rising
@@ -155,6 +155,11 @@ NoneDue now (e ∷ es) = now < e.moment
 -- the stamps of the expiries that are due
 abbrev pub stamps_due : ℕ → List Expiry → List ℕ
 stamps_due now expiries = map (λ e. e.stamp) (filter (λ e. nat_le e.moment now) expiries)
+
+-- the stamps of the expiries that are due, in front of the first that is not
+abbrev pub due_front : ℕ → List Expiry → List ℕ
+due_front now [] = []
+due_front now (e ∷ es) = cond (nat_le e.moment now) (e.stamp ∷ due_front now es) []
 
 -- numbers do not fall, from low on
 abbrev pub Grows : ℕ → List ℕ → Type 0

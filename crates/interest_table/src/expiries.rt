@@ -1,8 +1,8 @@
 //! The rows of class Until by their moments. A row whose note spells no number below 2^64 never expires.
 
-ghost use Rattle.std.specs.Prelude.{◌≡◌, ℕ, ◌<◌, ◌≤◌, ◌+◌, ◌^◌, ◌++◌, map, take, filter, nat_lt, nat_le, IfOk, OnOk, IfSome, IfNone};
+ghost use Rattle.std.specs.Prelude.{◌≡◌, ℕ, ◌<◌, ◌≤◌, ◌+◌, ◌^◌, ◌++◌, [], List, cond, nat_lt, IfOk, IfSome, IfNone};
 ghost use Rattle.disk_areas.specs.Numbers.{spelled_number};
-ghost use Rattle.interest_table.specs.Inside.{is_due, is_that, place_of, AreOrdered, IsEntered, IsTaken, IsGained, IsLost, Leads, NoneDue, IsDueStamps};
+ghost use Rattle.interest_table.specs.Inside.{is_due, is_that, place_of, AreOrdered, IsEntered, IsTaken, IsGained, IsLost, Leads, NoneDue, due_front, IsDueStamps};
 
 use counted_row::CountedRow;
 use std::alloc::Global;
@@ -58,8 +58,7 @@ fn put_expiry(expiries: &mut CountedRow<Expiry>, coming: Expiry)
     ensures items { IsEntered coming expiries.old.items expiries.new.items }
     ensures spare { expiries.old.spare ≤ expiries.new.spare + 1 }
 {
-    let place = expiries.partition_point(|other| stands_before(other, &coming));
-    let Ok(()) = expiries.insert(place, coming) else {
+    let Ok(()) = expiries.insert_at_point(|other| stands_before(other, &coming), coming) else {
         return;
     };
 }
@@ -69,8 +68,7 @@ fn take_expiry(expiries: &mut CountedRow<Expiry>, gone: Expiry)
     ensures items { IsTaken gone expiries.old.items expiries.new.items }
     ensures spare { expiries.old.spare ≤ expiries.new.spare }
 {
-    let place = expiries.partition_point(|other| stands_before(other, &gone));
-    expiries.remove(place);
+    expiries.remove_at_point(|other| stands_before(other, &gone));
 }
 
 /// A row comes under a stamp, where there is room.
@@ -112,42 +110,36 @@ pub(crate) fn first_due(expiries: &CountedRow<Expiry>, now: Moment) -> Option<u6
     Some(first.stamp)
 }
 
-/// How many rows have expired.
-fn due_count(expiries: &CountedRow<Expiry>, now: Moment) -> usize
-    ensures moment { now < 2 ^ 64 }
-    ensures front { AreOrdered expiries.now.items → take result expiries.now.items ≡ filter (λ e. nat_le e.moment now) expiries.now.items }
+/// Puts the stamps of a run last, up to the first expiry that is not due. Whether all are.
+fn push_due(stamps: &mut Vec<u64>, run: &[Expiry], most: u64) -> Result<bool, NoMemory>
+    ensures { IfOk result (λ all. (left : List Expiry) → stamps.new.items ++ cond all (due_front most left) [] ≡ stamps.old.items ++ due_front most (run.now ++ left)) }
 {
-    let most = now.number();
-    expiries.partition_point(|other| other.moment <= most)
-}
-
-/// Puts the stamps of some expiries last.
-fn push_stamps(stamps: &mut Vec<u64>, expiries: &[Expiry]) -> Result<(), NoMemory>
-    ensures { OnOk result (stamps.new.items ≡ stamps.old.items ++ map (λ e. e.stamp) expiries.now) }
-{
-    for expiry in expiries {
+    for expiry in run {
+        if expiry.moment > most {
+            return Ok(false);
+        }
         stamps.push(expiry.stamp)?;
     }
-    Ok(())
+    Ok(true)
 }
 
-/// The stamps of so many expiries in front.
+/// The stamps of the expiries in front that are due. It ends at the first that is not: where none is, it looks at one.
 fn front_stamps(
     alloc: Global,
     expiries: &CountedRow<Expiry>,
-    count: usize,
+    most: u64,
 ) -> Result<Vec<u64>, NoMemory>
-    ensures { IfOk result (λ stamps. stamps.items ≡ map (λ e. e.stamp) (take count expiries.now.items)) }
+    ensures { IfOk result (λ stamps. stamps.items ≡ due_front most expiries.now.items) }
 {
+    let _len = expiries.len();
     let mut stamps = Vec::new(alloc);
     let mut place = 0;
-    while place < count {
-        let Some(run) = expiries.run(place) else {
+    while let Some(run) = expiries.run(place) {
+        let all = push_due(&mut stamps, run, most)?;
+        if !all {
             return Ok(stamps);
-        };
-        let more = run.len().min(count - place);
-        push_stamps(&mut stamps, &run[..more])?;
-        place += more;
+        }
+        place += run.len();
     }
     Ok(stamps)
 }
@@ -161,7 +153,7 @@ pub(crate) fn due_stamps(
     ensures stamps { IfOk result (λ stamps. IsDueStamps now expiries.now.items stamps.items) }
     ensures moment { now < 2 ^ 64 }
 {
-    let mut stamps = front_stamps(alloc, expiries, due_count(expiries, now))?;
+    let mut stamps = front_stamps(alloc, expiries, now.number())?;
     stamps.sort_unstable();
     Ok(stamps)
 }

@@ -236,7 +236,7 @@ impl Listing {
         ropes_under(&self.rows, &stamps)
     }
 
-    /// The keys of the first 65,535 rows of class Listed that are not named, in order of making. It looks at the rows of that class alone.
+    /// The keys of the first 65,535 rows of class Listed that are not named, in order of making. It looks at the rows of that class alone, and at no further run once there are so many keys.
     pub(crate) fn absent_keys(&self, named: &HashSet<Key>) -> Result<Vec<Key>, NoMemory>
         ensures { IfOk result (λ keys. keys.items ≡ unlisted_keys (map row_in self.now.entries) named.now.keys) }
     {
@@ -245,6 +245,9 @@ impl Listing {
         let mut place = 0;
         while let Some(run) = self.listed.run(place) {
             push_absent(&mut keys, &self.rows, run, named)?;
+            if keys.len() >= 65_535 {
+                return Ok(keys);
+            }
             place += run.len();
         }
         Ok(keys)

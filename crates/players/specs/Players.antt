@@ -6,9 +6,10 @@
 --     rest_of, samples_of p      how much of the window is left;  its samples
 --     looked hint p, moved n p      the player after it loaded the hint;  after it copied n samples
 --     hung_up, without_lease p      the player that hears its window no longer;  without its window
+--     IsOfPool pool window      the window, if there is one, is of the pool
 --     Gets old took before after new      what a player gets, what its room has then, and the player after it
 use Rattle.std.specs.Prelude.{◌≡◌, ℕ, ◌+◌, ◌-◌, ◌≤◌, Bool, true, false, not, ◌||◌, ◌==◌, min, List, [], length, take, drop, slice_range, Option, Some, None}
-use Rattle.frame_pool.specs.Pool.{LeaseState, with_look}
+use Rattle.frame_pool.specs.Pool.{Identity, LeaseState, with_look}
 use Rattle.players.specs.declared.took.Took.{Took}
 use Rattle.players.specs.declared.took.Took.TheVariants.{Samples, Dry, Hinted}
 
@@ -80,6 +81,11 @@ hung_up p = record p { lease = released p.lease }
 -- the player without its window
 abbrev pub without_lease : PlayerState → PlayerState
 without_lease p = record p { lease = None }
+
+-- the window, if there is one, is of the pool
+abbrev pub IsOfPool : Identity → Option LeaseState → Type 0
+IsOfPool pool None = Unit {0}
+IsOfPool pool (Some lease) = lease.pool ≡ pool
 
 -- what a player gets, what its room has then, and the player after it
 abbrev pub Gets : PlayerState → Took → List ℕ → List ℕ → PlayerState → Type 0

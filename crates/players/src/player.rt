@@ -1,7 +1,8 @@
 //! A player of a lane.
 
 ghost use Rattle.std.specs.Prelude.{◌≡◌, ◌<◌, ◌≤◌, length, None, Some, is_some, MatchOption, IsTrue, ◌↔◌};
-ghost use Rattle.players.specs.Players.{Gets, new_player, holding, hung_up, without_lease};
+ghost use Rattle.frame_pool.specs.Pool.{Identity};
+ghost use Rattle.players.specs.Players.{Gets, IsOfPool, new_player, holding, hung_up, without_lease};
 
 use crate::Took;
 use frame_pool::Lease;
@@ -62,7 +63,8 @@ impl Player {
     /// Copies the next samples of its window: as many as there are, or as fit, at least one. `Dry` comes exactly where there is no live window or all of it was copied, and then the hint isn't looked at; `Hinted` only where the hint was on, and `Samples` only where it was off. It takes no memory and never waits.
     pub fn next(&mut self, out: &mut [u8]) -> Took
         requires some { 0 < length out.old }
-        ensures { Gets self.old result out.old out.new self.new }
+        ensures gets { Gets self.old result out.old out.new self.new }
+        ensures pool { (pool : Identity) → IsOfPool pool self.old.lease → IsOfPool pool self.new.lease }
     {
         let Some(lease) = &mut self.lease else {
             return Took::Dry;
@@ -80,7 +82,8 @@ impl Player {
 
     /// Hears its window no longer. It keeps the lease, to bring it back. A second time it does nothing.
     pub fn hang_up(&mut self)
-        ensures { self.new ≡ hung_up self.old }
+        ensures hung_up { self.new ≡ hung_up self.old }
+        ensures pool { (pool : Identity) → IsOfPool pool self.old.lease → IsOfPool pool self.new.lease }
     {
         if let Some(lease) = &mut self.lease {
             lease.release();

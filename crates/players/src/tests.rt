@@ -27,8 +27,10 @@ fn playing(alloc: Global) -> Result<(Keeper, Player), NoMemory>
     ensures { IfOk result (λ r. lanes_of r.0 ≡ 1) }
 {
     let (_pool, mut keeper) = Pool::new(alloc, 1, 8)?;
-    keeper.fill(0, b"abcdefgh");
-    keeper.fill(1, b"ijklmnop");
+    let mut room = Vec::from_slice(alloc, b"abcdefgh")?;
+    keeper.fill(0, &mut room);
+    room.copy_from_slice(b"ijklmnop");
+    keeper.fill(1, &mut room);
     let lease = keeper.grant(alloc, Lane(0), &WINDOW)?;
     let mut player = Player::new(Lane(0));
     player.hear(lease);

@@ -52,6 +52,7 @@ frames_forgot uses k xs ys readers room h is = record {
   unreserved = h.unreserved;
   once = λ f g b p q. h.once f g b (kept_at uses xs ys f b is p).0 (kept_at uses xs ys g b is q).0;
   room_is = h.room_is;
+  whole = λ f near. h.whole f (omega (arith, near, ap (λ l. length l) is, length-map xs (if_used uses)));
 }
 
 pub bytes_forgot : (uses : ℕ → ℕ → ℕ) (bytes : ℕ → ℕ → List ℕ) (inside self : FramesState) (ys : List (Option Block)) → inside ≡ self → ys ≡ map (if_used uses) inside.resident → HoldsBytes bytes self → (f : ℕ) (b : Block) → resident_at ys f ≡ Some b → frame_of inside.keeper f ≡ bytes b.file b.index

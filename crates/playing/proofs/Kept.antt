@@ -1,5 +1,5 @@
 -- What frames keep is kept.
-use Rattle.std.proofs.Common.{◌≡◌, ◌≢◌, ℕ, suc, ◌*◌, ◌<◌, ◌≤◌, Bool, true, false, cond, ◌==◌, List, [], ◌∷◌, length, refl, sym, ◌∙◌, ap, subst, arith, Option, Some, None, set}
+use Rattle.std.proofs.Common.{◌≡◌, ◌≢◌, ℕ, suc, ◌*◌, ◌<◌, ◌≤◌, Bool, true, false, cond, ◌==◌, List, [], ◌∷◌, length, refl, sym, ◌∙◌, ap, subst, arith, Option, Some, None, get_or, set}
 use Rattle.std.proofs.Math.ListN.{length-set}
 use Rattle.std.proofs.lemmas.Bool.{eqb-true, eq-eqb, ne_eqb}
 use Rattle.std.proofs.lemmas.List.{get_or-set_same, get_or-set_other}
@@ -43,9 +43,9 @@ once_set resident frame b low none once f g d h k = either (f == frame) (g == fr
 -- the lanes of another keeper of the same pool are as they were
 pub frames_loaded : (k k' : KeeperState) (resident : List (Option Block)) (readers : List (List Part)) (room room' frame : ℕ) (b : Block)
     → IsFrames k resident readers room → k'.pool ≡ k.pool → ((l : ℕ) → lane_at k'.view l ≡ lane_at k.view l)
-    → ((f : ℕ) → resident_at resident f ≢ Some b) → room' ≡ block_of k → frame < length resident
+    → ((f : ℕ) → resident_at resident f ≢ Some b) → room' ≡ block_of k → frame < length resident → length (frame_of k' frame) ≡ block_of k → ((f : ℕ) → f ≢ frame → frame_of k' f ≡ frame_of k f)
     → IsFrames k' (set resident frame (Some b)) readers room'
-frames_loaded k k' resident readers room room' frame b h pool lanes none whole low = record {
+frames_loaded k k' resident readers room room' frame b h pool lanes none whole low filled others = record {
   sized = subst (λ (p : Identity). IsSized p.sizes) (sym pool) h.sized;
   frames = length-set resident frame (Some b) ∙ h.frames ∙ ap (λ (p : Identity). 4 * p.sizes.lanes) (sym pool);
   lanes = h.lanes ∙ ap (λ (p : Identity). p.sizes.lanes) (sym pool);
@@ -55,7 +55,15 @@ frames_loaded k k' resident readers room room' frame b h pool lanes none whole l
   low = λ l le. ap (λ (d : LaneState). d.stage) (lanes l) ∙ h.low l (subst (λ (p : Identity). p.sizes.lanes ≤ l) pool le);
   once = once_set resident frame b low none h.once;
   room_is = whole ∙ ap (λ (p : Identity). p.sizes.block) (sym pool);
+  whole = λ f near. by f (f == frame) refl (omega (arith, near, length-set resident frame (Some b))) ∙ ap (λ (p : Identity). p.sizes.block) (sym pool);
 }
+  where
+    no : {t : Bool} → t ≡ true → t ≡ false → ⊥
+    no x y = cc
+
+    by : (f : ℕ) (t : Bool) → (f == frame) ≡ t → f < length resident → length (frame_of k' f) ≡ block_of k
+    by f true e near = ap (λ g. length (frame_of k' g)) (eqb-true f frame e) ∙ filled
+    by f false e near = ap (λ l. length l) (others f (λ same. no (eq-eqb f frame same) e)) ∙ h.whole f near
 
 -- there is a frame that may be filled
 pub spare_frames : (k : KeeperState) (resident : List (Option Block)) (readers : List (List Part)) (room block : ℕ) (window : List Piece) (l : ℕ) (b : Block)
@@ -126,6 +134,7 @@ frames_lane k k' resident readers room lane i ps h changes is low parts few free
   unreserved = λ l qs e. unreserved_by l qs (l == i) refl e;
   once = h.once;
   room_is = h.room_is ∙ ap (λ (p : Identity). p.sizes.block) (sym changes.pool);
+  whole = λ f near. ap (λ (frames : List (List ℕ)). length (get_or frames f [])) changes.frames ∙ h.whole f near ∙ ap (λ (p : Identity). p.sizes.block) (sym changes.pool);
 }
   where
     within : i < length readers

@@ -69,7 +69,7 @@ new_jobs q q' s s' taken taken' lane jobs is changes long marks = record {
 }
 
 pub same_frames : (s : FramesState) (lane : ℕ) → ChangesLaneAlone s s lane
-same_frames s lane = record { keeper = record { pool = refl; mirror = refl; others = λ j ne. refl }; resident = refl; bytes = λ bytes h. h }
+same_frames s lane = record { keeper = record { pool = refl; frames = refl; others = λ j ne. refl }; resident = refl; bytes = λ bytes h. h }
 
 pub jobs_are : (q q' : List (List Job)) (lane : ℕ) (jobs : List Job) → q' ≡ set q lane jobs → lane < length q → lane_of q' lane ≡ jobs
 jobs_are q q' lane jobs is low = ap (λ x. lane_of x lane) is ∙ get_or-set_same q lane jobs [] low

@@ -9,7 +9,7 @@ use Rattle.frame_pool.specs.Pool.{LeaseState, AreParts, block_of, granted}
 use Rattle.playing.specs.declared.blocks.Block.{Block}
 use Rattle.playing.specs.Frames.{FramesState, IsFrames}
 use Rattle.playing.specs.Windows.{AreStretches, ArePartsOf, IsLeaseOf, IsOut}
-use Rattle.playing.proofs.Samples.{parts_lie, parts_total, window_samples}
+use Rattle.playing.proofs.Samples.{AreWhole, parts_lie, parts_total, window_samples}
 
 pub can_grant : (s : FramesState) (inside : FramesState) (readers : List (List Part)) (room block : ℕ) (window : List Piece) (ps qs : List Part) → inside ≡ s → IsFrames inside.keeper inside.resident readers room → block ≡ block_of s.keeper → AreStretches block window → ArePartsOf block s.resident window ps → qs ≡ ps → AreParts inside.keeper.pool.sizes qs
 can_grant s inside readers room block window ps qs is h same stretches parts these =
@@ -26,8 +26,8 @@ has_count block resident window ps qs parts these least few =
     let m = ap (λ l. length l) these in
     (omega (arith, n.0, m, least), omega (arith, n.0, m, few))
 
-pub lease_of : (s inside : FramesState) (lane block : ℕ) (window : List Piece) (ps qs : List Part) (lease : LeaseState) → inside ≡ s → 0 < block → block ≡ block_of s.keeper → AreStretches block window → ArePartsOf block s.resident window ps → qs ≡ ps → lease ≡ granted inside.keeper lane qs → IsLeaseOf s lane window lease
-lease_of s inside lane block window ps qs lease is some same stretches parts these lent =
+pub lease_of : (s inside : FramesState) (lane block : ℕ) (window : List Piece) (ps qs : List Part) (lease : LeaseState) → inside ≡ s → AreWhole inside → 0 < block → block ≡ block_of s.keeper → AreStretches block window → ArePartsOf block s.resident window ps → qs ≡ ps → lease ≡ granted inside.keeper lane qs → IsLeaseOf s lane window lease
+lease_of s inside lane block window ps qs lease is whole some same stretches parts these lent =
     let here : lease ≡ granted s.keeper lane ps = lent ∙ ap₂ (λ (x : FramesState) (l : List Part). granted x.keeper lane l) is these in
     subst (IsLeaseOf s lane window) (sym here) (record {
       pool = refl;
@@ -36,7 +36,7 @@ lease_of s inside lane block window ps qs lease is some same stretches parts the
       live = refl;
       fresh = refl;
       unhinted = refl;
-      samples = λ bytes holds. window_samples bytes s window ps holds (subst (λ (b : ℕ). 0 < b) same some) (subst (λ (b : ℕ). AreStretches b window) same stretches) (subst (λ (b : ℕ). ArePartsOf b s.resident window ps) same parts);
+      samples = λ bytes holds. window_samples bytes s window ps (subst AreWhole is whole) holds (subst (λ (b : ℕ). 0 < b) same some) (subst (λ (b : ℕ). AreStretches b window) same stretches) (subst (λ (b : ℕ). ArePartsOf b s.resident window ps) same parts);
     })
 
 pub is_out : (block : ℕ) (resident : List (Option Block)) (window : List Piece) (ps qs : List Part) (stage : Stage) → ArePartsOf block resident window ps → qs ≡ ps → stage ≡ Handed qs → IsOut (samples_in window) stage

@@ -1,3 +1,4 @@
+pub mod Blank
 pub mod Pigeons
 pub mod Kept
 pub mod Samples

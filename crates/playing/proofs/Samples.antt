@@ -34,25 +34,32 @@ run bytes block file q bs (suc n) from a is at fits long =
     ∙ ap₂ (λ x l. x ∷ take n l) first (ap (λ k. drop k bs) (let e : suc a ≡ a + 1 = omega arith in e))
     ∙ ap (λ l. byte_in bytes block (record { file = file; place = from }) ∷ l) later
 
-pub length-frame_of : (k : KeeperState) (f : ℕ) → length (frame_of k f) ≡ block_of k
-length-frame_of k f = length-map (range_with_len (f * block_of k) (block_of k)) _ ∙ length-range_with_len (f * block_of k) (block_of k)
+-- the frames that parts name are there, and the parts lie in them
+held_low : (resident : List (Option Block)) (f : ℕ) (b : Block) → resident_at resident f ≡ Some b → f < length resident
+held_low [] f b at = cc
+held_low (o ∷ resident) zero b at = omega arith
+held_low (o ∷ resident) (suc f) b at = let low = held_low resident f b at in omega arith
 
-pub stretch_samples : (bytes : ℕ → ℕ → List ℕ) (s : FramesState) (x : Piece) (p : Part) → HoldsBytes bytes s → 0 < block_of s.keeper → IsStretch (block_of s.keeper) x → IsPartOf (block_of s.keeper) s.resident x p → stretch_of s.keeper p ≡ map (byte_in bytes (block_of s.keeper)) (spots_in x)
-stretch_samples bytes s x p holds some stretch part =
+-- each frame has the bytes of a block
+abbrev pub AreWhole : FramesState → Type 0
+AreWhole s = (f : ℕ) → f < length s.resident → length (frame_of s.keeper f) ≡ block_of s.keeper
+
+pub stretch_samples : (bytes : ℕ → ℕ → List ℕ) (s : FramesState) (x : Piece) (p : Part) → AreWhole s → HoldsBytes bytes s → 0 < block_of s.keeper → IsStretch (block_of s.keeper) x → IsPartOf (block_of s.keeper) s.resident x p → stretch_of s.keeper p ≡ map (byte_in bytes (block_of s.keeper)) (spots_in x)
+stretch_samples bytes s x p whole_frames holds some stretch part =
     let block = block_of s.keeper in
     let is : frame_of s.keeper p.frame ≡ bytes x.file (x.from / block) = holds p.frame (block_at block x) part.held in
     let whole : x.from ≡ x.from / block * block + x.from % block = sym (let e = mod-add-div' x.from block in let f : x.from / block * block + x.from % block ≡ x.from = omega (arith, e) in f) in
     ap₂ (λ a n. take (a + n - a) (drop a (frame_of s.keeper p.frame))) part.from part.len
     ∙ ap (λ n. take n (drop (x.from % block) (frame_of s.keeper p.frame))) (let e : x.from % block + x.len - x.from % block ≡ x.len = omega arith in e)
-    ∙ run bytes block x.file (x.from / block) (frame_of s.keeper p.frame) x.len x.from (x.from % block) (sym is) whole stretch.inside (length-frame_of s.keeper p.frame)
+    ∙ run bytes block x.file (x.from / block) (frame_of s.keeper p.frame) x.len x.from (x.from % block) (sym is) whole stretch.inside (whole_frames p.frame (held_low s.resident p.frame (block_at block x) part.held))
 
 -- the samples of the parts of a window
-pub window_samples : (bytes : ℕ → ℕ → List ℕ) (s : FramesState) (xs : List Piece) (ps : List Part) → HoldsBytes bytes s → 0 < block_of s.keeper → AreStretches (block_of s.keeper) xs → ArePartsOf (block_of s.keeper) s.resident xs ps → flat_map (stretch_of s.keeper) ps ≡ map (byte_in bytes (block_of s.keeper)) (spots_of xs)
-window_samples bytes s [] [] holds some stretches parts = refl
-window_samples bytes s [] (p ∷ ps) holds some stretches parts = absurd parts
-window_samples bytes s (x ∷ xs) [] holds some stretches parts = absurd parts
-window_samples bytes s (x ∷ xs) (p ∷ ps) holds some stretches parts =
-    ap₂ (λ a b. a ++ b) (stretch_samples bytes s x p holds some stretches.0 parts.0) (window_samples bytes s xs ps holds some stretches.1 parts.1)
+pub window_samples : (bytes : ℕ → ℕ → List ℕ) (s : FramesState) (xs : List Piece) (ps : List Part) → AreWhole s → HoldsBytes bytes s → 0 < block_of s.keeper → AreStretches (block_of s.keeper) xs → ArePartsOf (block_of s.keeper) s.resident xs ps → flat_map (stretch_of s.keeper) ps ≡ map (byte_in bytes (block_of s.keeper)) (spots_of xs)
+window_samples bytes s [] [] whole holds some stretches parts = refl
+window_samples bytes s [] (p ∷ ps) whole holds some stretches parts = absurd parts
+window_samples bytes s (x ∷ xs) [] whole holds some stretches parts = absurd parts
+window_samples bytes s (x ∷ xs) (p ∷ ps) whole holds some stretches parts =
+    ap₂ (λ a b. a ++ b) (stretch_samples bytes s x p whole holds some stretches.0 parts.0) (window_samples bytes s xs ps whole holds some stretches.1 parts.1)
     ∙ sym (map-append (byte_in bytes (block_of s.keeper)) (spots_in x) (spots_of xs))
 
 -- ---- the stretches of a window
@@ -145,12 +152,6 @@ next_part block resident window n ps x p low at h one = subst (λ (l : List Piec
     take_one [] n x low at = absurd (omega arith)
     take_one (y ∷ ys) zero x low at = ap (λ z. z ∷ []) (sym at)
     take_one (y ∷ ys) (suc n) x low at = ap (λ k. take k (y ∷ ys)) (let e : suc n + 1 ≡ suc (n + 1) = omega arith in e) ∙ ap (λ l. y ∷ l) (take_one ys n x (omega arith) at)
-
--- the frames that parts name are there, and the parts lie in them
-held_low : (resident : List (Option Block)) (f : ℕ) (b : Block) → resident_at resident f ≡ Some b → f < length resident
-held_low [] f b at = cc
-held_low (o ∷ resident) zero b at = omega arith
-held_low (o ∷ resident) (suc f) b at = let low = held_low resident f b at in omega arith
 
 pub parts_lie : (z : Sizes) (resident : List (Option Block)) (xs : List Piece) (ps : List Part) → length resident ≡ 4 * z.lanes → AreStretches z.block xs → ArePartsOf z.block resident xs ps → AreParts z ps
 parts_lie z resident [] [] count stretches h = tt

@@ -71,6 +71,7 @@ pub record IsFrames (k : KeeperState) (resident : List (Option Block)) (readers 
   pub unreserved : (l : ℕ) (ps : List Part) → stage_of k l ≢ Reserved ps
   pub once : (f g : ℕ) (b : Block) → resident_at resident f ≡ Some b → resident_at resident g ≡ Some b → f ≡ g
   pub room_is : room ≡ block_of k
+  pub whole : (f : ℕ) → f < length resident → length (frame_of k f) ≡ block_of k
 
 -- the frames hold the bytes of their blocks
 abbrev pub HoldsBytes : (ℕ → ℕ → List ℕ) → FramesState → Type 0

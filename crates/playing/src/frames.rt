@@ -149,7 +149,7 @@ fn read_room<D: Disk>(
 }
 
 impl Frames {
-    // Reads a block into a frame that no lane reads.
+    // Reads a block into the room, and swaps it with a frame that no lane reads.
     fn load<D: Disk>(
         &mut self,
         shape: &Shape,
@@ -174,7 +174,7 @@ impl Frames {
         ensures err { OnErr result (self.new ≡ self.old) }
     {
         read_room(shape, disk, address, &mut self.room)?;
-        self.keeper.fill(frame, &self.room);
+        self.keeper.fill(frame, &mut self.room);
         self.resident[frame as usize] = Some(b);
         Ok(())
     }

@@ -71,7 +71,7 @@ is_read disk first (image.Reading.Bad place) is p = cc
 
 settled : (name : List ℕ) (files : Files) (bytes : List ℕ) (a b : Seen) (old new : Told) (history : List Entry) → IsDone name files bytes a old (seen b new) history → Settled files name bytes history
 settled name files bytes a b old new history d =
-    let ran : RanWhole false files name old new history = subst (λ (o : Option Files). IfSome o (λ files. RanWhole false files name old new history)) d.shelf d.promise.comes in
+    let ran : RanWhole false files name (seen a old) (seen b new) history = subst (λ (o : Option Files). IfSome o (λ files. RanWhole false files name (seen a old) (seen b new) history)) d.shelf d.promise.comes in
     let opens : image.opened_from old.bytes ≡ Some ran.performed.first = ran.performed.disk.opened d.honest in
     record {
       script = ran.script;
@@ -79,12 +79,12 @@ settled name files bytes a b old new history d =
       ready = ran.ready;
       first = ran.performed.first;
       opens = ap image.opened_from (sym d.image) ∙ opens;
-      serial = subst (λ (honest : Bool). Serial honest ran.performed.first ran.tapes ran.script.lines (length ran.script.lines) history) d.honest ran.performed.made_so;
+      serial = subst (λ (honest : Bool). Serial honest ran.performed.first ran.tapes ran.script.lines (length ran.script.lines) history) d.honest ran.performed.made_so.1.0;
     }
 
 calm_run : (old new : Told) (name : List ℕ) (files : Files) (bytes : List ℕ) (a b : Seen) (history : List Entry) → IsDone name files bytes a old (seen b new) history → IsCalm (seen a old) (seen b new) → NoFaults history
 calm_run old new name files bytes a b history d calm =
-    let ran : RanWhole false files name old new history = subst (λ (o : Option Files). IfSome o (λ files. RanWhole false files name old new history)) d.shelf d.promise.comes in
+    let ran : RanWhole false files name (seen a old) (seen b new) history = subst (λ (o : Option Files). IfSome o (λ files. RanWhole false files name (seen a old) (seen b new) history)) d.shelf d.promise.comes in
     let complete : IsComplete files name (seen a old) (seen b new) history Done =
     subst (λ (o : Option Files). IfSome o (λ files. IsComplete files name (seen a old) (seen b new) history Done)) d.shelf d.promise.complete in
     let opens : image.opened_from old.bytes ≡ Some ran.performed.first = ran.performed.disk.opened d.honest in

@@ -9,7 +9,8 @@ use Rattle.voice_model.specs.declared.calls.Reply.TheVariants as replies
 use Rattle.voice_model.specs.declared.calls.Entry.{Entry}
 use Rattle.script_lang.specs.declared.scripts.Line.{Line}
 use Rattle.script_lang.specs.Errands.{errand_of}
-use Rattle.voice_main.specs.Ordered.{AreBy, Variables, with_those_of, InOrder}
+use Rattle.servings.specs.Asked.{AreBy}
+use Rattle.voice_main.specs.Ordered.{Variables, with_those_of, InOrder}
 use Rattle.run_laws.specs.Alike.{without_acks, SameButAcks}
 use Rattle.run_laws.proofs.Quiet.{AreAnswered, answered_front, answered_back, legal_front, legal_back, one_head, one_state_after, same_entry, same_cons, same_append, after_same}
 use Rattle.run_laws.proofs.Playing.{serving_alike}

@@ -14,7 +14,7 @@ use Rattle.voice_model.specs.declared.calls.Reply.TheVariants as replies
 use Rattle.voice_model.specs.declared.calls.Why.{Why}
 use Rattle.voice_model.specs.declared.calls.Why.TheVariants as why
 use Rattle.voice_model.specs.declared.calls.Entry.{Entry}
-use Rattle.voice_main.specs.Ordered.{AreBy}
+use Rattle.servings.specs.Asked.{AreBy}
 use Rattle.run_laws.specs.Alike.{without_acks, SameButAcks}
 use Rattle.run_laws.proofs.Quiet.{AreAnswered, one_head, one_state_after, same_entry, same_cons}
 

@@ -16,7 +16,7 @@ use Rattle.voice_model.specs.declared.calls.Entry.{Entry}
 use Rattle.voice_model.proofs.Determined.{one_reply}
 use Rattle.voice_store.specs.Stood.{is_fault, is_fault_of}
 use Rattle.voice_main.specs.RunPromise.{NoFaults}
-use Rattle.voice_main.specs.Ordered.{is_landing, asked_entries}
+use Rattle.servings.specs.Asked.{is_landing, asked_entries}
 use Rattle.run_laws.specs.Alike.{entry_of, without_ack, without_acks, SameButAcks}
 
 -- ---- no entry tells of a fault

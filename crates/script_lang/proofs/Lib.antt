@@ -12,5 +12,6 @@ pub mod Wholes
 pub mod Names
 pub mod Asking
 pub mod Owning
+pub mod Owned
 pub mod Speaking
 pub mod Once

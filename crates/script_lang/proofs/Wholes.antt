@@ -14,15 +14,17 @@ use Rattle.script_lang.specs.declared.verbs.VerbName.{VerbName}
 use Rattle.script_lang.specs.declared.sentence.Spoken.{Spoken}
 use Rattle.script_lang.specs.Words.{lines_of}
 use Rattle.script_lang.specs.Shown.{Reading}
-use Rattle.script_lang.specs.Forms.{is_short, is_name_byte}
+use Rattle.script_lang.specs.Forms.{is_file, is_short, is_name_byte}
 use Rattle.script_lang.specs.Samples.{place_of}
-use Rattle.script_lang.specs.Parts.{empty_script, mention, line_of, with_line}
+use Rattle.script_lang.specs.Parts.{empty_script, mention, line_of, with_line, served, is_taken}
+use Rattle.script_lang.specs.Owners.{HaveOneOwner}
 use Rattle.script_lang.specs.Reading.{read_lines, Parses}
-use Rattle.script_lang.specs.Grammar.{Spells, Adds, IsSpoken, Fits, IsSample}
-use Rattle.script_lang.specs.Errands.{HasTape, HasItsRopes, IsInItsRange}
+use Rattle.script_lang.specs.Grammar.{Spells, Adds, IsSpoken, Fits, IsGiven, IsSample}
+use Rattle.script_lang.specs.Errands.{HasTape, HasFile, HasItsRopes, IsInItsRange}
 use Rattle.script_lang.specs.Whole.{IsLineOf, IsWhole}
 use Rattle.script_lang.proofs.Steps.{lines_found}
 use Rattle.script_lang.proofs.Names.{mention_grows}
+use Rattle.script_lang.proofs.Owned.{one_owner_more}
 
 -- samples and callers only grow
 mention_keeps : (names : List (List ℕ)) (name : Option (List ℕ)) → length names ≤ length (mention names name)
@@ -101,6 +103,33 @@ has_tape names (verbs.Add lane tape) file sample f = sample_within names tape sa
 has_tape names (verbs.End lane) file sample f = tt
 has_tape names (verbs.Levels rope) file sample f = tt
 
+-- a line that serves a lane names a file
+given : (file : Option (List ℕ)) → IsGiven is_file file → (name : List ℕ) × (file ≡ Some name)
+given None f = absurd f
+given (Some name) f = (name, refl)
+
+has_file : (names : List (List ℕ)) (verb : Verb) (file sample : Option (List ℕ)) → Fits names verb file sample → HasFile verb file
+has_file names (verbs.Record tape) file sample f = tt
+has_file names (verbs.Concat args) file sample f = tt
+has_file names (verbs.Sub rope start len) file sample f = tt
+has_file names (verbs.Replace rope start len with) file sample f = tt
+has_file names (verbs.Length rope) file sample f = tt
+has_file names (verbs.Retain class key rope note) file sample f = tt
+has_file names (verbs.Forget class key) file sample f = tt
+has_file names (verbs.Lookup class key) file sample f = tt
+has_file names (verbs.Census keys) file sample f = tt
+has_file names (verbs.Advance moment) file sample f = tt
+has_file names (verbs.Sweep limit) file sample f = tt
+has_file names (verbs.Describe rope) file sample f = tt
+has_file names (verbs.Queue lane rope start len) file sample f = tt
+has_file names (verbs.Play lane rope start len) file sample f = given file f.0
+has_file names (verbs.Serve lane) file sample f = given file f.0
+has_file names (verbs.Stop lane) file sample f = tt
+has_file names (verbs.Begin lane) file sample f = tt
+has_file names (verbs.Add lane tape) file sample f = tt
+has_file names (verbs.End lane) file sample f = tt
+has_file names (verbs.Levels rope) file sample f = tt
+
 -- a concat has 1 to 16 ropes
 has_ropes : (names : List (List ℕ)) (verb : Verb) (file sample : Option (List ℕ)) → Fits names verb file sample → HasItsRopes verb
 has_ropes names (verbs.Record tape) file sample f = tt
@@ -166,12 +195,14 @@ line_kept known s c t d line p q h = record {
   most = omega (arith, h.most);
   verb = h.verb;
   tape = tape_more line.verb s t p h.tape;
+  file = h.file;
+  bind = h.bind;
   ropes = h.ropes;
   range = h.range;
 }
 
-adds_whole : (known : VerbName → Bool) (n : ℕ) (r : Reading) (s : Spoken) → n ≤ 65535 → IsSpoken known r.samples s → UpTo known n r → UpTo known (n + 1) (with_line n r s)
-adds_whole known n r s few is h =
+adds_whole : (known : VerbName → Bool) (n : ℕ) (r : Reading) (s : Spoken) → n ≤ 65535 → IsSpoken known r.samples s → is_taken r.lines s.caller (served s.said.verb) ≡ false → UpTo known n r → UpTo known (n + 1) (with_line n r s)
+adds_whole known n r s few is free h =
     let grows = mention_grows r.samples s.said.sample in
     let keeps = mention_keeps r.samples s.said.sample in
     let long = length (mention r.samples s.said.sample) in
@@ -183,11 +214,14 @@ adds_whole known n r s few is h =
       most = omega arith;
       verb = is.taken;
       tape = has_tape r.samples s.said.verb s.said.file s.said.sample is.fits;
+      file = has_file r.samples s.said.verb s.said.file s.said.sample is.fits;
+      bind = is.bind;
       ropes = has_ropes r.samples s.said.verb s.said.file s.said.sample is.fits;
       range = in_range r.samples s.said.verb s.said.file s.said.sample is.fits;
     } in
     let whole : IsWhole known (with_line n r s) = record {
       lines = All-append (IsLineOf known long top) r.lines (line_of n s ∷ []) old (All-cons (IsLineOf known long top) (line_of n s) [] new (All-nil (IsLineOf known long top)));
+      owners = one_owner_more r.lines (line_of n s) h.whole.owners free;
       few = omega (arith, grows, h.below);
       least = omega (arith, h.whole.least);
       most = omega (arith, h.whole.most, is.most);
@@ -201,16 +235,19 @@ line_whole : (known : VerbName → Bool) (n : ℕ) (r m : Reading) (line : List 
 line_whole known n r m line a h =
     elim a.1 [
       | inl q ↦ subst (UpTo known (n + 1)) q.1 (later known n r h)
-      | inr c ↦ subst (UpTo known (n + 1)) (sym c.grown) (adds_whole known n r c.spoken a.0 c.fits h)
+      | inr c ↦ subst (UpTo known (n + 1)) (sym c.grown) (adds_whole known n r c.spoken a.0 c.fits c.free h)
     ]
 
 spelled_whole : (known : VerbName → Bool) (lines : List (List ℕ)) (n : ℕ) (r m : Reading) → Spells known n r lines m → UpTo known n r → IsWhole known m
 spelled_whole known [] n r m e h = subst (IsWhole known) e h.whole
 spelled_whole known (line ∷ lines) n r m e h = spelled_whole known lines (n + 1) e.0 m e.2 (line_whole known n r e.0 line e.1 h)
 
+no_owners : HaveOneOwner []
+no_owners k d within = absurd (omega arith)
+
 none_yet : (known : VerbName → Bool) → UpTo known 1 empty_script
 none_yet known = record {
-  whole = record { lines = All-nil (IsLineOf known 0 1); few = lit≤ tt; least = lit≤ tt; most = lit≤ tt };
+  whole = record { lines = All-nil (IsLineOf known 0 1); owners = no_owners; few = lit≤ tt; least = lit≤ tt; most = lit≤ tt };
   below = lit≤ tt;
 }
 

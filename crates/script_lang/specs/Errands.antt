@@ -2,12 +2,13 @@
 --     asked tapes verb variables      the call of a line with that verb, none where it only serves a lane
 --     errand_of tapes line      a line as its caller's entries follow it
 --     HasTape count verb      the tape that a line names, if it names one, is one of so many
+--     HasFile verb file      a line that serves a lane names a file
 --     HasItsRopes verb      a concat has 1 to 16 ropes
 --     IsInItsRange verb      the key and the note of a retain and the moment of an advance are in their ranges
 --     SameValues a b      each variable stands for the same rope in both
---     IsBuiltAlike name call      a verb is built where its call is, but one that serves a lane, since no serving is built yet
+--     IsBuiltAlike name call      a verb that makes a call is built where its call is
 --     IsAskedOf call      a caller may ask the call
-use Rattle.std.specs.Prelude.{ℕ, Bool, List, ◌≡◌, ◌≤◌, ◌<◌, ◌^◌, ◌&&◌, not, true, false, IsTrue, Option, Some, None, map, length}
+use Rattle.std.specs.Prelude.{ℕ, List, ◌≡◌, ◌≤◌, ◌<◌, ◌^◌, true, IsTrue, Option, Some, None, map, length}
 use Rattle.voice_model.specs.declared.calls.Call.{Call}
 use Rattle.voice_model.specs.declared.calls.Call.TheVariants as calls
 use Rattle.voice_model.specs.Spelling.{is_key}
@@ -17,7 +18,6 @@ use Rattle.voice_model.specs.Step.{is_asked_of}
 use Rattle.built_calls.specs.Built.{is_built}
 use Rattle.script_lang.specs.declared.scripts.Line.{Line}
 use Rattle.script_lang.specs.declared.verbs.VerbName.{VerbName}
-use Rattle.script_lang.specs.declared.verbs.VerbName.TheVariants as names
 use Rattle.script_lang.specs.Verbs.{is_built_verb}
 use Rattle.script_lang.specs.Parts.{served}
 use Rattle.script_lang.specs.declared.scripts.RopeArg.{RopeArg}
@@ -59,6 +59,12 @@ HasTape count (verbs.Record tape) = tape < count
 HasTape count (verbs.Add lane tape) = tape < count
 HasTape count _ = Unit {0}
 
+-- a line that serves a lane names a file
+abbrev pub HasFile : Verb → Option (List ℕ) → Type 0
+HasFile (verbs.Play lane rope start len) file = (name : List ℕ) × (file ≡ Some name)
+HasFile (verbs.Serve lane) file = (name : List ℕ) × (file ≡ Some name)
+HasFile _ file = Unit {0}
+
 -- a concat has 1 to 16 ropes
 abbrev pub HasItsRopes : Verb → Type 0
 HasItsRopes (verbs.Concat args) = (1 ≤ length args) × (length args ≤ 16)
@@ -78,16 +84,10 @@ errand_of tapes line = record { asks = asked tapes line.verb; binds = line.bind;
 abbrev pub SameValues : List Binding → List Binding → Type 0
 SameValues a b = (name : List ℕ) → value_of a name ≡ value_of b name
 
--- whether a line with this verb serves a lane
-abbrev pub serves_lane : VerbName → Bool
-serves_lane names.Play = true
-serves_lane names.Serve = true
-serves_lane _ = false
-
--- a verb is built where its call is, but one that serves a lane, since no serving is built yet
+-- a verb that makes a call is built where its call is
 abbrev pub IsBuiltAlike : VerbName → Option Call → Type 0
 IsBuiltAlike name None = Unit {0}
-IsBuiltAlike name (Some call) = is_built_verb name ≡ (is_built call && not (serves_lane name))
+IsBuiltAlike name (Some call) = is_built_verb name ≡ is_built call
 
 -- a caller may ask the call
 abbrev pub IsAskedOf : Option Call → Type 0

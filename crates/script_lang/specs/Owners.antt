@@ -3,9 +3,10 @@
 --     is_owned owners caller lane      another caller serves the lane
 --     with_owner owners caller lane      the caller serves the lane
 --     Owns owners lines      the owners are those of the lines
-use Rattle.std.specs.Prelude.{ℕ, ◌≡◌, ◌<◌, ◌==◌, ◌&&◌, Bool, false, not, List, length, replicate, slice_index, slice_set, Option, Some, None}
+--     HaveOneOwner lines      no lane is served for two callers
+use Rattle.std.specs.Prelude.{ℕ, ◌≡◌, ◌<◌, ◌==◌, ◌&&◌, Bool, false, not, List, length, replicate, slice_index, slice_set, Option, Some, None, All}
 use Rattle.script_lang.specs.declared.scripts.Line.{Line}
-use Rattle.script_lang.specs.Parts.{is_taken}
+use Rattle.script_lang.specs.Parts.{served, is_taken}
 
 abbrev pub no_owner : List ℕ
 no_owner = replicate 16 0
@@ -24,3 +25,7 @@ with_owner owners caller (Some lane) = slice_set owners lane caller
 pub record Owns (owners : List ℕ) (lines : List Line) : Type 0 where
   pub lanes : length owners ≡ 16
   pub taken : (caller lane : ℕ) → lane < 16 → is_taken lines caller (Some lane) ≡ is_owned owners caller (Some lane)
+
+-- no lane is served for two callers
+abbrev pub HaveOneOwner : List Line → Type 0
+HaveOneOwner lines = All (λ line. is_taken lines line.caller (served line.verb) ≡ false) lines

@@ -118,6 +118,8 @@ impl VerbName {
                 | VerbName::Describe
                 | VerbName::Levels
                 | VerbName::Queue
+                | VerbName::Play
+                | VerbName::Serve
                 | VerbName::Stop
                 | VerbName::Retain
                 | VerbName::Forget

@@ -14,15 +14,15 @@ pub fn heard_while_filling<R: Threads + Sync>(
     rt: &R,
     alloc: Global,
     mut keeper: Keeper,
-    block: &[u8],
-    other: &[u8],
+    mut block: Vec<u8>,
+    other: Vec<u8>,
 ) -> Result<(Keeper, Lease, [u8; 8]), NoMemory>
     requires sizes { (1 ≤ lanes_of keeper) × (block_of keeper ≡ 8) }
     requires free { (l : ℕ) → l < lanes_of keeper → stage_of keeper l ≡ Free }
-    requires blocks { (length block.now ≡ 8) × (length other.now ≡ 8) }
-    ensures heard { IfOk result (λ r. r.2 ≡ block.now) }
+    requires blocks { (length block.items ≡ 8) × (length other.items ≡ 8) }
+    ensures heard { IfOk result (λ r. r.2 ≡ block.items) }
 {
-    keeper.fill(0, block);
+    keeper.fill(0, &mut block);
     let parts = [Part {
         frame: 0,
         from: 0,
@@ -41,11 +41,12 @@ pub fn heard_while_filling<R: Threads + Sync>(
             (lease, out)
         },
         move || -> Keeper
-            requires { (1 ≤ lanes_of keeper) × (block_of keeper ≡ 8) × (length other.now ≡ 8) × IsSpare keeper 1 }
+            requires { (1 ≤ lanes_of keeper) × (block_of keeper ≡ 8) × (length other.items ≡ 8) × IsSpare keeper 1 }
         {
             let mut keeper = keeper;
+            let mut room = other;
             keeper.hint(Lane(0), true);
-            keeper.fill(1, other);
+            keeper.fill(1, &mut room);
             keeper
         },
     );

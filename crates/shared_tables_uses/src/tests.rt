@@ -9,7 +9,13 @@ fn a_lease_is_heard_while_a_frame_is_filled(rt: HostRuntime) -> Result<(), Fail>
     let Ok((_pool, keeper)) = Pool::new(rt.alloc(), 2, 8) else {
         panic!(rt; "memory")
     };
-    let Ok(made) = heard_while_filling(&rt, rt.alloc(), keeper, b"abcdefgh", b"ABCDEFGH") else {
+    let Ok(block) = Vec::from_slice(rt.alloc(), b"abcdefgh") else {
+        panic!(rt; "memory")
+    };
+    let Ok(other) = Vec::from_slice(rt.alloc(), b"ABCDEFGH") else {
+        panic!(rt; "memory")
+    };
+    let Ok(made) = heard_while_filling(&rt, rt.alloc(), keeper, block, other) else {
         panic!(rt; "memory")
     };
     let (_keeper, _lease, heard) = made;

@@ -142,7 +142,9 @@ fn measure_in_file<R: Print + Clock + Files<File = File>>(rt: &R, alloc: Global)
     make_file(rt, alloc, &shape)?;
     let tapes = no_tapes(alloc)?;
     let mut other = open_file(rt, size_of(&shape))?;
-    let disk = open_file(rt, size_of(&shape))?;
+    let Ok(disk) = other.try_clone() else {
+        return Err(io::Error::from(ErrorKind::Other));
+    };
     compare_in_file(rt, alloc, disk, tapes, &mut other)
 }
 

@@ -8,6 +8,7 @@ pub mod figures;
 mod growing;
 pub mod images;
 mod opening;
+mod plays;
 mod recording;
 pub mod stores;
 

@@ -17,8 +17,10 @@ fn window(alloc: Global, block: &[u8; 8192]) -> Result<(Keeper, Lease), NoMemory
     ensures { IfOk result (λ r. r.1.live ≡ true) }
 {
     let (_pool, mut keeper) = Pool::new(alloc, 1, 8192)?;
-    keeper.fill(0, block);
-    keeper.fill(1, block);
+    let mut room = Vec::from_slice(alloc, block)?;
+    keeper.fill(0, &mut room);
+    room.copy_from_slice(block);
+    keeper.fill(1, &mut room);
     let parts = [
         Part {
             frame: 0,

@@ -4,6 +4,7 @@ ghost use Rattle.script_lang.specs.Verbs.{is_built_verb};
 ghost use Rattle.script_lang.specs.Whole.{IsWhole};
 
 use crate::alone::time_alone;
+use crate::rates;
 use crate::scripts::script_of;
 use crate::serving::time_served;
 use bench_report::disks::shape_of;
@@ -86,13 +87,16 @@ fn measure_turns<R: Print + Clock + Threads + Wait + Sync>(
     measure_image(rt, alloc, &image)
 }
 
-/// Makes the measurements over threads that a word asks for: `turns`, or `all`; none by another word. It prints what the same calls cost through a server with 1, 2, 4 and 16 callers, each on a thread of its own, beside calls of the store alone, the middle of some runs.
+/// Makes the measurements over threads that a word asks for: `turns`, `players`, or `all`; none by another word. `turns` prints what the same calls cost through a server with 1, 2, 4 and 16 callers, each on a thread of its own, beside calls of the store alone, the middle of some runs; `players` how many samples a second 16 players hear, of whom two also record and sweep, and one alone.
 pub fn measure<R: Print + Clock + AllocGlobal + Threads + Wait + Sync>(
     rt: &R,
     word: &str,
 ) -> io::Result<()> {
-    if !is_asked(word, "turns") {
-        return Ok(());
+    if is_asked(word, "turns") {
+        measure_turns(rt, rt.alloc())?;
     }
-    measure_turns(rt, rt.alloc())
+    if is_asked(word, "players") {
+        rates::measure(rt, rt.alloc())?;
+    }
+    Ok(())
 }

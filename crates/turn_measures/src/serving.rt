@@ -23,8 +23,12 @@ use voice_outside::{Disk, OpenGate};
 use voice_server::Server;
 use voice_store::Store;
 
-// The store of a disk, which keeps all that a server wants of it; none where it isn't opened.
-fn open_kept<D: Disk + Drop>(alloc: Global, disk: D, tapes: Arc<Tapes, Global>) -> Option<Store<D>>
+/// The store of a disk, which keeps all that a server wants of it; none where it isn't opened.
+pub fn open_kept<D: Disk + Drop>(
+    alloc: Global,
+    disk: D,
+    tapes: Arc<Tapes, Global>,
+) -> Option<Store<D>>
     ensures kept { IfSome result (λ store. IsKept D.told store) }
     ensures tapes { IfSome result (λ store. tapes_in store ≡ arc_value tapes) }
 {
@@ -64,11 +68,13 @@ fn time_callers<R: Clock + Threads + Wait + Sync, D: Disk + Drop>(
         }
     };
     let start = Instant::now(rt);
-    let Outcome { passes, memory } = run_threads(
-        rt, alloc, &server, passes, script, tapes, &OpenGate,
-    );
+    let Outcome {
+        passes,
+        heard: _,
+        memory,
+    } = run_threads(rt, alloc, &server, passes, script, tapes, &OpenGate);
     let took = elapsed(rt, start, memory);
-    let_go(server.close(passes));
+    let_go(server.close(passes, Vec::new(alloc)));
     took
 }
 

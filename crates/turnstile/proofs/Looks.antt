@@ -1,5 +1,5 @@
 -- A look keeps the turn rule, where it is the pass's turn and where it is not.
-use Rattle.std.proofs.Common.{◌≡◌, ◌≢◌, ℕ, ◌≤◌, List, [], ◌∷◌, ◌++◌, length, Option, Some, IfSome, MatchBool, Bool, true, refl, sym, ap, ◌∙◌, subst, ⊎_elim, inr, arith, append-nil, ne_eqb, eq-eqb, length-set}
+use Rattle.std.proofs.Common.{◌≡◌, ◌≢◌, ℕ, ◌≤◌, List, [], ◌∷◌, ◌++◌, length, drop, Option, Some, IfSome, MatchBool, Bool, true, refl, sym, ap, ◌∙◌, subst, ⊎_elim, inr, arith, append-nil, ne_eqb, eq-eqb, length-set}
 use Rattle.std.specs.Prelude.{slice_index, slice_set}
 use mathlib.Core.Option.{Option as Home, some, none}
 use native.Mathlib.Decide.{ℕ_discrete}
@@ -9,12 +9,13 @@ use Rattle.std.specs.declared.snapshot.Snapshot.{Snapshot}
 use Rattle.atomic_table.specs.Table.{State, Me, Act, keeps, takes, stepped, Valid, carried_after, Allows}
 use Rattle.atomic_table.proofs.Lists.{set_here, set_again, one_turn}
 use Rattle.voice_model.specs.declared.calls.Entry.{Entry}
+use Rattle.turnstile.specs.Histories.{entries_of}
 use Rattle.turnstile.specs.declared.view.Stage.TheVariants.{Waiting, Entered, Spent}
 use Rattle.turnstile.specs.declared.view.View.{View}
 use Rattle.turnstile.specs.declared.view.Start.{Start}
-use Rattle.turnstile.specs.Turns.{wrapped, has_ticket, has_turn, is_spent, bit, Begins, with_turn, tickets, Each, Queues, Fits, Looked, Rests, Kept}
+use Rattle.turnstile.specs.Turns.{wrapped, has_ticket, has_turn, is_spent, bit, Begins, with_turn, tickets, Each, Queues, Fits, Looked, OwnsAll, Rests, Kept}
 use Rattle.turnstile.proofs.Views.{bit_small, at_same, at_get, each_set, apart_kept, sum_set, sum_below, olds_set, joined_set}
-use Rattle.turnstile.proofs.Turning.{live, not_spent, first_only}
+use Rattle.turnstile.proofs.Turning.{live, not_spent, first_only, drop_front}
 
 module _ {T O : Type 0} (origin : T → O) (history : T → List Entry) (stands : T → Type 0) where
   -- the ticket of the view is the word
@@ -25,7 +26,7 @@ module _ {T O : Type 0} (origin : T → O) (history : T → List Entry) (stands 
       one_turn h.count.served v.ticket 18446744073709551616 r.0 (let a = h.queue in let b = h.passes.0 in let c = h.passes.1 in let d = h.few in let l = r.1 in omega arith) same
 
   abbrev Took : View T → Me (Option T) (View T) → Type 0
-  Took v r = (y : T) × (r ≡ (with_turn (history y) v, (0, Some y) ∷ [])) × stands y × Begins v.seen (history y) × IfSome v.base (λ b. origin y ≡ origin b.value)
+  Took v r = (y : T) × (r ≡ (with_turn (history y) v, (0, Some y) ∷ [])) × stands y × Begins v.seen (history y) × IfSome v.base (λ b. (origin y ≡ origin b.value) × OwnsAll (history b.value) v (history y))
 
   takes_turn : (k : Start T) (id : ℕ) (v : View T) (s : State (Option T) (View T)) (h : Kept origin history stands k s) (at : get_elem? s.views id ≡ some v) (wait : v.stage ≡ Waiting) → v.ticket ≡ h.count.served
       → (w : View T) × (a : Act (Option T)) × Valid s.homes [] a × Kept origin history stands k (stepped s 1 (slice_index s.words 1) id [] w a)
@@ -59,7 +60,7 @@ module _ {T O : Type 0} (origin : T → O) (history : T → List Entry) (stands 
           apart = apart_kept s.views id v w at h.apart (λ _. (tv, refl));
           lies = inr (ap (λ (hs : List (Home (Option T))). slice_set hs 0 none) x.1, (id, w, set_here s.views id w (at_get s.views id v at).0, refl));
         },
-        (x.0, refl, x.2.2, subst (Begins v.seen) (sym x.2.0) mine.0.seen, subst (λ (o : Option (Snapshot T)). IfSome o (λ b. origin x.0 ≡ origin b.value)) (sym mine.0.base) x.2.1),
+        (x.0, refl, x.2.2, subst (Begins v.seen) (sym x.2.0) mine.0.seen, subst (λ (o : Option (Snapshot T)). IfSome o (λ b. (origin x.0 ≡ origin b.value) × OwnsAll (history b.value) v (history x.0))) (sym mine.0.base) (x.2.1, ((n.news, x.2.0), mine.0.mine ∙ ap (entries_of v.caller) (sym (ap (drop (length (history k.base.value))) x.2.0 ∙ drop_front (history k.base.value) n.news))))),
       ))
       (λ (x : (s.homes ≡ none ∷ []) × ((i : ℕ) × (v : View T) × (get_elem? s.views i ≡ some v) × (v.stage ≡ Entered))).
       let same = first_only origin history stands k s h id x.1.0 v x.1.1 at x.1.2 tv first (ap has_turn x.1.3) in

@@ -1,6 +1,7 @@
 -- Words of contracts on a turnstile and its passes.
 use Rattle.std.specs.Prelude.{ℕ, suc, ◌≡◌, ◌<◌, ◌≤◌, true, false, List, [], ◌∷◌, ◌++◌, length, drop, All}
 use Rattle.voice_model.specs.declared.calls.Entry.{Entry}
+use Rattle.turnstile.specs.Histories.{entries_of}
 use Rattle.turnstile.specs.Shown.{ShownTurnstile, ShownPass}
 use Rattle.turnstile.specs.Turns.{IsOneTurn, Every, StandsIn, IsOfPasses, Begins}
 
@@ -65,6 +66,10 @@ module _ {T O : Type 0} where
   -- the value that a turnstile was closed with
   abbrev pub IsLast : (T → O) → (T → List Entry) → (T → Type 0) → ShownTurnstile T → T → Type 0
   IsLast origin history stands t y = (origin y ≡ origin (made_with t)) × stands y × Begins (history (made_with t)) (history y) × Every (IsOfPasses (callers_of t)) (drop (length (history (made_with t))) (history y))
+
+-- a history goes on from the start, and what a caller did is all that it gained of it
+abbrev pub IsAllOf : List Entry → List Entry → ℕ → List Entry → Type 0
+IsAllOf start log by own = Begins start log × (own ≡ entries_of by (drop (length start) log))
 
 -- one turn of a caller that had seen a history: it gains this number of entries
 abbrev pub AddsOneTurn : ℕ → List Entry → List Entry → ℕ → Type 0

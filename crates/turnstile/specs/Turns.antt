@@ -181,17 +181,22 @@ module _ {T : Type 0} where
   abbrev pub Fits : Snapshot T → List Entry → Count → ℕ → View T → Type 0
   Fits base log c i v = (v ≡ spent_view) ⊎ (Knows base log c.news c.passes i v × Queues log c.served c.drawn v)
 
+module _ {T : Type 0} where
+  -- the history goes on from the start, and the view has all that it gained of its caller
+  abbrev pub OwnsAll : List Entry → View T → List Entry → Type 0
+  OwnsAll start v log = Begins start log × (v.mine ≡ entries_of v.caller (drop (length start) log))
+
 module _ {T O : Type 0} (origin : T → O) (history : T → List Entry) (stands : T → Type 0) where
   -- the turn was had, and the value taken; or it was not
   abbrev pub Looked : Me (Option T) (View T) → ℕ → Me (Option T) (View T) → Type 0
   Looked m n r =
       MatchBool (n == wrapped m.0.ticket)
-      ((y : T) × (r ≡ (with_turn (history y) m.0, (0, Some y) ∷ m.1)) × stands y × Begins m.0.seen (history y) × IfSome m.0.base (λ b. origin y ≡ origin b.value))
+      ((y : T) × (r ≡ (with_turn (history y) m.0, (0, Some y) ∷ m.1)) × stands y × Begins m.0.seen (history y) × IfSome m.0.base (λ b. (origin y ≡ origin b.value) × OwnsAll (history b.value) m.0 (history y)))
       (r ≡ m)
 
   -- the same, at a view of a known start
   abbrev pub HasTurn : T → View T → Me (Option T) (View T) → Type 0
-  HasTurn made v r = (y : T) × (r ≡ (with_turn (history y) v, (0, Some y) ∷ [])) × stands y × Begins v.seen (history y) × (origin y ≡ origin made)
+  HasTurn made v r = (y : T) × (r ≡ (with_turn (history y) v, (0, Some y) ∷ [])) × stands y × Begins v.seen (history y) × (origin y ≡ origin made) × OwnsAll (history made) v (history y)
 
   -- a value between turns
   abbrev pub Rests : Snapshot T → List Entry → T → Type 0

@@ -2,7 +2,7 @@
 ghost use Rattle.std.specs.Prelude.{◌≡◌, ◌++◌, length, drop};
 ghost use Rattle.turnstile.specs.Histories.{entries_of};
 ghost use Rattle.turnstile.specs.Turns.{Begins};
-ghost use Rattle.turnstile.specs.Passes.{made_with, seen, mine, IsOf, IsOutside, IsEntered, HasStood, AddsOneTurn};
+ghost use Rattle.turnstile.specs.Passes.{made_with, seen, mine, IsOf, IsOutside, IsEntered, HasStood, IsAllOf, AddsOneTurn};
 
 use crate::parts::{Pass, Turnstile};
 use crate::stands::Stands;
@@ -35,6 +35,8 @@ impl<T: Stands> Turnstile<T> {
         ensures seen { (seen pass.new ≡ T.history result) × Begins (seen pass.old) (seen pass.new) }
         ensures stood { HasStood T.origin T.history T.stands self.now pass.new }
         ensures mine { mine pass.new ≡ mine pass.old }
+        // Nobody else had a turn of this caller.
+        ensures all { IsAllOf (T.history (made_with self.now)) (T.history result) pass.new.caller (mine pass.new) }
     {
         let ticket = self.gate.draw(&mut pass.seat);
         self.gate.wait(rt, &mut pass.seat, ticket);

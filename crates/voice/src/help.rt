@@ -26,6 +26,8 @@ The lines of a script, each with an example; a comment begins with #:
   CALLER [VARIABLE =] replace ROPE START LEN OTHER    1 d = replace b 0 10 c
   CALLER length ROPE (so describe, levels)            1 describe d
   CALLER queue LANE ROPE START LEN                    1 queue 0 d 0 20
+  CALLER play LANE ROPE START LEN FILE                1 play 1 d 0 20 heard.ul
+  CALLER serve LANE FILE                              1 serve 0 first.ul
   CALLER stop LANE                                    1 stop 0
   CALLER retain CLASS KEY ROPE NOTE                   1 retain held mail.1 d 6869
   CALLER [VARIABLE =] lookup CLASS KEY                2 m = lookup held mail.1

@@ -1,17 +1,19 @@
-//! A disk in a file. It is trusted: no clause says what a real file holds.
+//! A disk in a file. It is trusted: no clause says what a real file holds, which names it has, or who holds its lock.
 
-ghost use Rattle.std.specs.Prelude.{ℕ, ◌≡◌, ◌≤◌, ◌<◌, ◌^◌, ◌↔◌, IfOk, IfErr, IsErr, false};
+ghost use Rattle.std.specs.Prelude.{ℕ, ◌≡◌, ◌≤◌, ◌<◌, ◌^◌, ◌↔◌, IfSome, IfOk, IfErr, IsErr, false};
 ghost use Rattle.voice_outside.specs.Counters.{next_count, HasRisen};
 
 use std::fs::{File, OpenOptions};
 use std::io::ErrorKind;
-use std::os::unix::fs::FileExt;
+use std::os::unix::fs::{FileExt, MetadataExt};
 use std::rt::Files;
 use std::{fs, str};
 use voice_outside::{Disk, OutsideError};
 use voice_units::{Failed, Name};
 
 /// A file of the current folder as a disk, whose size is the file's length. It tells nothing of its bytes. A read that meets the file's end, a write that takes nothing and a sync that isn't done count as faults.
+///
+/// It holds the file's lock, so that of all programs that open the file as a `FileDisk` one has it at a time. The lock goes with the disk and its clones, and with the program, however that ends.
 #[derive(Drop)]
 pub struct FileDisk {
     file: File,
@@ -20,59 +22,111 @@ pub struct FileDisk {
     faults: u64,
 }
 
-// A new file of so many zero bytes. One that can't have that length is removed again.
-fn made<R: Files<File = File>>(
-    rt: &R,
-    path: &str,
-    file: File,
-    size: u64,
-) -> Result<(File, u64), OutsideError>
-    ensures { IfErr result (λ e. e ≡ OutsideError.Failed) }
-{
-    if file.set_len(size).is_ok() {
-        return Ok((file, size));
+// How many names the file has, where this is one of them and the file is a plain one, else 0. A link to the file is no name of it.
+fn names_of<R: Files<File = File>>(rt: &R, path: &str, file: &File) -> u64 {
+    let Ok(own) = file.metadata() else {
+        return 0;
+    };
+    let Ok(named) = fs::symlink_metadata(rt, path) else {
+        return 0;
+    };
+    if own.is_file() && named.dev() == own.dev() && named.ino() == own.ino() {
+        return own.nlink();
     }
-    let _removed = fs::remove_file(rt, path);
-    Err(OutsideError::Failed)
+    0
 }
 
-// A file that is there, with its length.
-fn found<R: Files<File = File>>(rt: &R, path: &str) -> Result<(File, u64), OutsideError>
-    ensures { IfErr result (λ e. e ≡ OutsideError.Failed) }
+// The disk in an open file, once the file is locked.
+fn locked(file: File) -> Result<FileDisk, OutsideError>
+    ensures calls { IfOk result (λ disk. disk.calls ≡ 0) }
+    ensures faults { IfOk result (λ disk. disk.faults ≡ 0) }
+    ensures err { IfErr result (λ e. e ≡ OutsideError.Failed) }
 {
-    let opened = OpenOptions::new().read(true).write(true).open(rt, path);
-    let Ok(file) = opened else {
+    if file.try_lock().is_err() {
         return Err(OutsideError::Failed);
-    };
+    }
     let Ok(metadata) = file.metadata() else {
         return Err(OutsideError::Failed);
     };
-    let len = metadata.len();
-    Ok((file, len))
+    let size = metadata.len();
+    Ok(FileDisk {
+        file,
+        size,
+        calls: 0,
+        faults: 0,
+    })
 }
 
-fn found_or_made<R: Files<File = File>>(
-    rt: &R,
-    path: &str,
-    size: u64,
-) -> Result<(File, u64), OutsideError>
-    ensures { IfErr result (λ e. e ≡ OutsideError.Failed) }
-{
-    let opened = OpenOptions::new()
-        .read(true)
-        .write(true)
-        .create_new(true)
-        .open(rt, path);
-    match opened {
-        Ok(file) => made(rt, path, file, size),
-        Err(e) if e.kind() == ErrorKind::AlreadyExists => found(rt, path),
-        Err(_) => Err(OutsideError::Failed),
-    }
+// Whether the file now has so many zero bytes, synced.
+fn is_cleared(file: &File, size: u64) -> bool {
+    file.set_len(0).is_ok() && file.set_len(size).is_ok() && file.sync_all().is_ok()
 }
 
 impl FileDisk {
-    /// The disk in the file of that name: of `size` zero bytes where there is none, else the file as it is, whose length, 0 too, is then the disk's size. `Failed` where the system refuses, or the name is no text.
+    /// The disk in the file of that name, with its lock; `None` where no file has the name, and then none is made. The file stays as it is, and its length, 0 too, is the disk's size. `Failed` where another program has the lock, where the file can't be locked, where the system refuses, or the name is no text.
     pub fn open<R: Files<File = File>>(
+        rt: &R,
+        name: &Name,
+    ) -> Result<Option<FileDisk>, OutsideError>
+        ensures calls { IfOk result (λ found. IfSome found (λ disk. disk.calls ≡ 0)) }
+        ensures faults { IfOk result (λ found. IfSome found (λ disk. disk.faults ≡ 0)) }
+        ensures err { IfErr result (λ e. e ≡ OutsideError.Failed) }
+    {
+        let Ok(path) = str::from_utf8(name.bytes()) else {
+            return Err(OutsideError::Failed);
+        };
+        let opened = OpenOptions::new().read(true).write(true).open(rt, path);
+        let file = match opened {
+            Ok(file) => file,
+            Err(e) if e.kind() == ErrorKind::NotFound => return Ok(None),
+            Err(_) => return Err(OutsideError::Failed),
+        };
+        match locked(file) {
+            Ok(disk) => Ok(Some(disk)),
+            Err(e) => Err(e),
+        }
+    }
+
+    /// A disk of `size` zero bytes, up to 2^63 - 1, in a file of that name, with its lock and synced. The file is made where there is none; one that is there is cleared, unless it has another name too. `Failed` where another program has the lock, where the file can't be locked, where the name has come to stand for another file, where the system refuses, which leaves no file, or the name is no text.
+    pub fn make<R: Files<File = File>>(
+        rt: &R,
+        name: &Name,
+        size: u64,
+    ) -> Result<FileDisk, OutsideError>
+        ensures calls { IfOk result (λ disk. disk.calls ≡ 0) }
+        ensures faults { IfOk result (λ disk. disk.faults ≡ 0) }
+        ensures size { IfOk result (λ disk. disk.size ≡ size) }
+        ensures err { IfErr result (λ e. e ≡ OutsideError.Failed) }
+    {
+        let Ok(path) = str::from_utf8(name.bytes()) else {
+            return Err(OutsideError::Failed);
+        };
+        let opened = OpenOptions::new()
+            .read(true)
+            .write(true)
+            .create(true)
+            .open(rt, path);
+        let Ok(file) = opened else {
+            return Err(OutsideError::Failed);
+        };
+        let mut disk = match locked(file) {
+            Ok(disk) => disk,
+            Err(e) => return Err(e),
+        };
+        // Only now is the file this program's: until it had the lock, another could have given it the name of a disk and ended.
+        if names_of(rt, path, &disk.file) != 1 {
+            return Err(OutsideError::Failed);
+        }
+        if !is_cleared(&disk.file, size) {
+            let _removed = fs::remove_file(rt, path);
+            return Err(OutsideError::Failed);
+        }
+        disk.size = size;
+        Ok(disk)
+    }
+
+    /// The disk that `open` finds, or else one that `make` makes under that very name. Of a program that is killed in between a file may stay that is shorter than `size`. `Failed` as theirs.
+    pub fn open_or_make<R: Files<File = File>>(
         rt: &R,
         name: &Name,
         size: u64,
@@ -81,16 +135,79 @@ impl FileDisk {
         ensures faults { IfOk result (λ disk. disk.faults ≡ 0) }
         ensures err { IfErr result (λ e. e ≡ OutsideError.Failed) }
     {
-        let Ok(path) = str::from_utf8(name.bytes()) else {
+        match FileDisk::open(rt, name) {
+            Ok(Some(disk)) => Ok(disk),
+            Ok(None) => FileDisk::make(rt, name, size),
+            Err(e) => Err(e),
+        }
+    }
+
+    /// Gives the disk's file the name `to` in place of `from`, its only name. The file is synced before it has the new name, and the folder once it has. No file that has the name `to` is replaced. `Failed` where one has it, where `from` isn't the file's only name, where the system refuses, or a name is no text; where only the folder's sync is refused, the file has the new name all the same.
+    pub fn take_name<R: Files<File = File>>(
+        &self,
+        rt: &R,
+        from: &Name,
+        to: &Name,
+    ) -> Result<(), OutsideError>
+        ensures err { IfErr result (λ e. e ≡ OutsideError.Failed) }
+    {
+        let Ok(from) = str::from_utf8(from.bytes()) else {
             return Err(OutsideError::Failed);
         };
-        let (file, len) = match found_or_made(rt, path, size) {
-            Ok(pair) => pair,
-            Err(e) => return Err(e),
+        let Ok(to) = str::from_utf8(to.bytes()) else {
+            return Err(OutsideError::Failed);
+        };
+        let Ok(folder) = fs::open(rt, ".") else {
+            return Err(OutsideError::Failed);
+        };
+        if names_of(rt, from, &self.file) != 1 || self.file.sync_all().is_err() {
+            return Err(OutsideError::Failed);
+        }
+        // A second name is refused where a file has it; a rename would replace that file.
+        if fs::hard_link(rt, from, to).is_err() {
+            return Err(OutsideError::Failed);
+        }
+        // Where the old name can't go, `drop_name` may remove it later.
+        let _removed = fs::remove_file(rt, from);
+        if folder.sync_all().is_err() {
+            return Err(OutsideError::Failed);
+        }
+        Ok(())
+    }
+
+    /// Removes the disk's file where it has this name, and lets go of its lock.
+    pub fn discard<R: Files<File = File>>(self, rt: &R, name: &Name) {
+        let Ok(path) = str::from_utf8(name.bytes()) else {
+            return;
+        };
+        if names_of(rt, path, &self.file) > 0 {
+            let _removed = fs::remove_file(rt, path);
+        }
+    }
+
+    /// Removes this name of the disk's file, where it has the name and another one besides; else it does nothing. A program that was killed as it gave a disk its name may have left the old name too.
+    pub fn drop_name<R: Files<File = File>>(&self, rt: &R, name: &Name) {
+        let Ok(path) = str::from_utf8(name.bytes()) else {
+            return;
+        };
+        if names_of(rt, path, &self.file) > 1 {
+            let _removed = fs::remove_file(rt, path);
+        }
+    }
+
+    /// Another disk over the same open file, of the same size and under the same lock. Its calls and faults are counted anew. `Failed` where the system refuses.
+    pub fn try_clone(&self) -> Result<FileDisk, OutsideError>
+        ensures calls { IfOk result (λ disk. disk.calls ≡ 0) }
+        ensures faults { IfOk result (λ disk. disk.faults ≡ 0) }
+        ensures size { IfOk result (λ disk. disk.size ≡ self.now.size) }
+        ensures err { IfErr result (λ e. e ≡ OutsideError.Failed) }
+    {
+        let Ok(file) = self.file.try_clone() else {
+            return Err(OutsideError::Failed);
         };
         Ok(FileDisk {
             file,
-            size: len,
+            size: self.size,
             calls: 0,
             faults: 0,
         })

@@ -84,7 +84,7 @@ fn opened<R: Files<File = fs::File> + Abort>(
     let Ok(name) = Name::new(name) else {
         panic!(rt; "no name");
     };
-    let Ok(disk) = FileDisk::open(rt, &name, size) else {
+    let Ok(disk) = FileDisk::open_or_make(rt, &name, size) else {
         panic!(rt; "not opened");
     };
     assert!(rt; disk.size() == wanted);
@@ -108,4 +108,72 @@ fn a_file_keeps_its_bytes_and_its_length(rt: HostRuntime) -> io::Result<()> {
     let disk = opened(&rt, b"voice_disk_test", 128, 0);
     assert!(rt; disk.calls() == 0);
     fs::remove_file(&rt, "voice_disk_test")
+}
+
+fn named<R: Abort>(rt: &R, name: &[u8]) -> Name {
+    let Ok(name) = Name::new(name) else {
+        panic!(rt; "no name");
+    };
+    name
+}
+
+fn made<R: Files<File = fs::File> + Abort>(rt: &R, name: &Name, size: u64) -> FileDisk {
+    let Ok(disk) = FileDisk::make(rt, name, size) else {
+        panic!(rt; "not made");
+    };
+    assert!(rt; disk.size() == size);
+    disk
+}
+
+fn is_absent<R: Files<File = fs::File>>(rt: &R, name: &Name) -> bool {
+    matches!(FileDisk::open(rt, name), Ok(None))
+}
+
+// A disk has one owner at a time, under both of its names, and a name that a file has is given to no other.
+#[test]
+fn a_disk_is_made_under_one_name_and_gets_another(rt: HostRuntime) -> io::Result<()> {
+    let _removed = fs::remove_file(&rt, "voice_disk_first");
+    let _removed = fs::remove_file(&rt, "voice_disk_then");
+    let first = named(&rt, b"voice_disk_first");
+    let then = named(&rt, b"voice_disk_then");
+    assert!(rt; is_absent(&rt, &first));
+    // what a birth that was cut off leaves is cleared
+    fs::write(&rt, "voice_disk_first", b"left over")?;
+    let mut disk = made(&rt, &first, 5);
+    assert!(rt; reads(&rt, &mut disk, 0, &[0; 5]));
+    assert!(rt; FileDisk::make(&rt, &first, 5).is_err());
+    assert!(rt; FileDisk::open(&rt, &first).is_err());
+    assert!(rt; put(&rt, &mut disk, 1, &[1, 2]));
+    // the name is taken
+    fs::write(&rt, "voice_disk_then", b"other")?;
+    assert!(rt; disk.take_name(&rt, &first, &then).is_err());
+    assert!(rt; fs::metadata(&rt, "voice_disk_then")?.len() == 5);
+    fs::remove_file(&rt, "voice_disk_then")?;
+    assert!(rt; disk.take_name(&rt, &first, &then).is_ok());
+    assert!(rt; is_absent(&rt, &first));
+    assert!(rt; FileDisk::open(&rt, &then).is_err());
+    let Ok(mut twin) = disk.try_clone() else {
+        panic!(rt; "no clone");
+    };
+    drop(disk);
+    assert!(rt; FileDisk::open(&rt, &then).is_err());
+    assert!(rt; reads(&rt, &mut twin, 0, &[0, 1, 2, 0, 0]));
+    drop(twin);
+    ends(&rt, &first, &then)
+}
+
+// A disk with two names, as a program that was killed leaves it, is cleared under neither, and keeps the second.
+fn ends<R: Files<File = fs::File> + Abort>(rt: &R, first: &Name, then: &Name) -> io::Result<()> {
+    fs::hard_link(rt, "voice_disk_then", "voice_disk_first")?;
+    assert!(rt; FileDisk::make(rt, first, 5).is_err());
+    let Ok(Some(mut disk)) = FileDisk::open(rt, then) else {
+        panic!(rt; "not found");
+    };
+    assert!(rt; reads(rt, &mut disk, 0, &[0, 1, 2, 0, 0]));
+    disk.drop_name(rt, first);
+    disk.drop_name(rt, then);
+    assert!(rt; is_absent(rt, first));
+    disk.discard(rt, then);
+    assert!(rt; is_absent(rt, then));
+    Ok(())
 }

@@ -1,9 +1,8 @@
 -- Histories that follow the lines of a script.
 use Rattle.std.proofs.Common.{◌≡◌, ◌≤◌, ◌<◌, ◌+◌, ℕ, inl, inr, ◌⊎◌, List, [], ◌∷◌, ◌++◌, length, get_or, set, take, map, cond, not, Bool, true, false, refl, sym, ap, subst, ◌∙◌, arith, append_assoc, append-nil}
 use Rattle.std.specs.Prelude.{◌==◌, All}
-use Rattle.std.proofs.lemmas.List.{take_more, get_or-set_other}
+use Rattle.std.proofs.lemmas.List.{get_or-set_other}
 use Rattle.std.proofs.lemmas.Grind.{get_or-set_at}
-use Rattle.std.proofs.Common.{length-set}
 use Rattle.std.proofs.lemmas.List.Elements.{filter-append}
 use Rattle.std.proofs.lemmas.Bool.Decides.{nat_tests}
 use Rattle.voice_model.specs.declared.calls.Entry.{Entry}
@@ -13,11 +12,12 @@ use Rattle.voice_model.specs.declared.calls.Reply.{Reply}
 use Rattle.voice_model.specs.State.{State}
 use Rattle.voice_model.specs.Step.{IsReply, state_after}
 use Rattle.voice_model.specs.Heard.{IsReplyOn, IsAnswerOn, LegalOn}
-use Rattle.voice_model.specs.Follows.{Binding, Follows, value_of, variables_after}
+use Rattle.voice_model.specs.Follows.{Binding, Follows, variables_after}
 use Rattle.script_lang.specs.declared.scripts.Line.{Line}
 use Rattle.script_lang.specs.Errands.{errand_of, SameValues}
-use Rattle.voice_main.specs.Ordered.{Variables, unset, with_those_of, AreBy, InOrder, LineRan, LineBound, asked_entries, is_landing, entries_of_caller, EachFollows}
-use Rattle.callers.specs.Lines.{DoesLine, lines_of_caller}
+use Rattle.servings.specs.Asked.{asked_entries, is_landing, AreBy}
+use Rattle.served_files.specs.Lines.{DoesLine, BeginsLines, lines_of_caller, entries_of_caller}
+use Rattle.voice_main.specs.Ordered.{Variables, unset, with_those_of, InOrder, BeginsInOrder, EachFollows, LineRan}
 
 -- ---- one line more
 
@@ -60,12 +60,12 @@ picked : (b : Bool) (e : Entry) (es : List Entry) → cond b (e ∷ cond b es []
 picked true e es = refl
 picked false e es = refl
 
-all_by : (caller : ℕ) (es : List Entry) (c : ℕ) → AreBy caller es → entries_of_caller c es ≡ cond (caller == c) es []
+pub all_by : (caller : ℕ) (es : List Entry) (c : ℕ) → AreBy caller es → entries_of_caller c es ≡ cond (caller == c) es []
 all_by caller [] c h = none_either (caller == c)
 all_by caller (e ∷ es) c h =
     ap (λ n. cond (n == c) (e ∷ entries_of_caller c es) (entries_of_caller c es)) h.0 ∙ ap (λ l. cond (caller == c) (e ∷ l) l) (all_by caller es c h.1) ∙ picked (caller == c) e es
 
-same_caller : (a c : ℕ) → (a == c) ≡ true → a ≡ c
+pub same_caller : (a c : ℕ) → (a == c) ≡ true → a ≡ c
 same_caller a c h = grind (arith, nat_tests)
 
 at_caller : (b : Bool) (tapes : List (List ℕ)) (line : Line) (c : ℕ) (variables : Variables) (new : List Binding) (own rest : List Entry) (ls : List Line) → (line.caller == c) ≡ b
@@ -136,7 +136,7 @@ aside true e asked all c is lands same = same ∙ sym (ap (λ x. cond x (e ∷ e
 aside false e asked all c is lands same = ap (λ l. cond (e.caller == c) (e ∷ l) l) same
 
 -- landings are no entries of a caller
-same_of_caller : (honest : Bool) (s : State) (tapes : List (List ℕ)) (history : List Entry) (c : ℕ) → 1 ≤ c → LegalOn honest s tapes history → entries_of_caller c (asked_entries history) ≡ entries_of_caller c history
+pub same_of_caller : (honest : Bool) (s : State) (tapes : List (List ℕ)) (history : List Entry) (c : ℕ) → 1 ≤ c → LegalOn honest s tapes history → entries_of_caller c (asked_entries history) ≡ entries_of_caller c history
 same_of_caller honest s tapes [] c some legal = refl
 same_of_caller honest s tapes (e ∷ es) c some legal =
     let both = parts honest s tapes e es legal in
@@ -145,6 +145,25 @@ same_of_caller honest s tapes (e ∷ es) c some legal =
 pub each_follows : (honest : Bool) (s : State) (tapes : List (List ℕ)) (lines : List Line) (history : List Entry) → LegalOn honest s tapes history → InOrder tapes unset lines (asked_entries history) → EachFollows tapes lines history
 each_follows honest s tapes lines history legal order = λ c some.
     subst (Follows [] (map (errand_of tapes) (lines_of_caller c lines))) (same_of_caller honest s tapes history c some legal) (each_of tapes unset lines (asked_entries history) order c)
+
+into_of : (honest : Bool) (s : State) (tapes : List (List ℕ)) (lines : List Line) (k : ℕ) (history part more : List Entry) (c : ℕ) → 1 ≤ c → LegalOn honest s tapes history → (part ≡ []) ⊎ InOrder tapes unset (take (k + 1) lines) (asked_entries history ++ more)
+    → (entries_of_caller c part ≡ []) ⊎ Follows [] (map (errand_of tapes) (lines_of_caller c (take (k + 1) lines))) (entries_of_caller c history ++ entries_of_caller c more)
+into_of honest s tapes lines k history part more c some legal (inl none) = inl (ap (entries_of_caller c) none)
+into_of honest s tapes lines k history part more c some legal (inr order) =
+    let split : entries_of_caller c (asked_entries history ++ more) ≡ entries_of_caller c history ++ entries_of_caller c more =
+    filter-append (λ e. e.caller == c) (asked_entries history) more ∙ ap (λ l. l ++ entries_of_caller c more) (same_of_caller honest s tapes history c some legal) in
+    inr (subst (Follows [] (map (errand_of tapes) (lines_of_caller c (take (k + 1) lines)))) split (each_of tapes unset (take (k + 1) lines) (asked_entries history ++ more) order c))
+
+-- the last line's entries perhaps in part
+pub each_begins : (honest : Bool) (s : State) (tapes : List (List ℕ)) (lines : List Line) (k : ℕ) (history : List Entry) → LegalOn honest s tapes history → BeginsInOrder tapes lines k (asked_entries history) → (c : ℕ) → 1 ≤ c → BeginsLines tapes lines c k (entries_of_caller c history)
+each_begins honest s tapes lines k history legal h c some = record {
+  front = entries_of_caller c h.front;
+  part = entries_of_caller c h.part;
+  more = entries_of_caller c h.more;
+  split = sym (same_of_caller honest s tapes history c some legal) ∙ ap (entries_of_caller c) h.split ∙ filter-append (λ e. e.caller == c) h.front h.part;
+  follows = each_of tapes unset (take k lines) h.front h.order c;
+  into = into_of honest s tapes lines k history h.part h.more c some legal h.into;
+}
 
 -- ---- the variables that the callers' environments stand for
 
@@ -164,7 +183,7 @@ is_same a b h = grind (arith, nat_tests)
 is_other : (a b : ℕ) → (a ≡ b → ⊥) → (a == b) ≡ false
 is_other a b h = grind (arith, nat_tests)
 
-stood_at : (b : Bool) (envs : List (List Binding)) (j caller k : ℕ) (d after new : List Binding) (variables : Variables) → (k == j) ≡ b → j + 1 ≡ caller → k < length envs → SameValues after new → SameValues (get_or envs k d) (variables (k + 1))
+pub stood_at : (b : Bool) (envs : List (List Binding)) (j caller k : ℕ) (d after new : List Binding) (variables : Variables) → (k == j) ≡ b → j + 1 ≡ caller → k < length envs → SameValues after new → SameValues (get_or envs k d) (variables (k + 1))
     → SameValues (get_or (set envs j after) k d) (with_those_of caller new variables (k + 1))
 stood_at true envs j caller k d after new variables is at within set_so stood =
     let same : k ≡ j = same_number k j is in
@@ -178,49 +197,6 @@ stood_at false envs j caller k d after new variables is at within set_so stood =
     let old_there : variables (k + 1) ≡ with_those_of caller new variables (k + 1) = sym (ap (λ x. cond x new (variables (k + 1))) others) in
     let env_there : get_or envs k d ≡ get_or (set envs j after) k d = sym (get_or-set_other envs j k after d apart) in
     subst (λ v. SameValues (get_or (set envs j after) k d) v) old_there (subst (λ v. SameValues v (variables (k + 1))) env_there stood)
-
--- where the first i lines have led
-abbrev pub IsAt : List (List ℕ) → List Line → ℕ → List Entry → List (List Binding) → Type 0
-IsAt tapes lines i history envs = (stand : Variables) × Reaches tapes (take i lines) history stand × AreStood envs stand
-
-stands_so : (envs : List (List Binding)) (stand : Variables) (j caller : ℕ) (now : List Binding) → AreStood envs stand → j + 1 ≡ caller → j < length envs → now ≡ get_or envs j now → SameValues now (stand caller)
-stands_so envs stand j caller now h at within is = subst (λ n. SameValues now (stand n)) at (subst (λ v. SameValues v (stand (j + 1))) (sym is) (h j now within))
-
-one_more : (lines : List Line) (i : ℕ) (line : Line) → i < length lines → line ≡ get_or lines i line → take i lines ++ line ∷ [] ≡ take (i + 1) lines
-one_more lines i line within is = ap (λ l. take i lines ++ l ∷ []) is ∙ sym (take_more lines i line within)
-
--- one line more was done
-pub reached_more : (tapes : List (List ℕ)) (lines : List Line) (i : ℕ) (line : Line) (old new : List Entry) (envs : List (List Binding)) (j : ℕ) (now after : List Binding) → i < length lines → line ≡ get_or lines i line → j + 1 ≡ line.caller → j < length envs
-    → now ≡ get_or envs j now → IsAt tapes lines i old envs → ((stand : List Binding) → SameValues now stand → LineBound tapes line stand after old new) → IsAt tapes lines (i + 1) new (set envs j after)
-reached_more tapes lines i line old new envs j now after within is at there stood h f =
-    let bound = f (h.0 line.caller) (stands_so envs h.0 j line.caller now h.2 at there stood) in
-    let values = variables_after line.bind bound.0.own (h.0 line.caller) in
-    let reaches = one_line_more tapes (take i lines) line old new h.0 h.1 bound.0 in (
-      with_those_of line.caller values h.0,
-      subst (λ l. Reaches tapes l new (with_those_of line.caller values h.0)) (one_more lines i line within is) reaches,
-      λ k d less. let less' : k < length envs = omega (arith, less, length-set envs j after) in stood_at (k == j) envs j line.caller k d after values h.0 refl at less' bound.1 (h.2 k d less'),
-    )
-
-either_way : (tapes : List (List ℕ)) (lines : List Line) (i : ℕ) (line : Line) (old new : List Entry) (variables : Variables) → i < length lines → line ≡ get_or lines i line → Reaches tapes (take i lines) old variables
-    → (asked_entries new ≡ asked_entries old) ⊎ LineRan tapes line (variables line.caller) old new → (k : ℕ) × InOrder tapes unset (take k lines) (asked_entries new)
-either_way tapes lines i line old new variables within is h (inl same) = (i, in_order tapes (take i lines) new variables (reaches_still tapes (take i lines) old new variables same h))
-either_way tapes lines i line old new variables within is h (inr ran) = (
-  i + 1,
-  subst (λ l. InOrder tapes unset l (asked_entries new)) (one_more lines i line within is) (in_order tapes (take i lines ++ line ∷ []) new _ (one_line_more tapes (take i lines) line old new variables h ran)),
-)
-
--- the line was done, or nothing of it
-pub reached_so_far : (tapes : List (List ℕ)) (lines : List Line) (i : ℕ) (line : Line) (old new : List Entry) (envs : List (List Binding)) (j : ℕ) (now : List Binding) → i < length lines → line ≡ get_or lines i line → j + 1 ≡ line.caller → j < length envs
-    → now ≡ get_or envs j now → IsAt tapes lines i old envs → ((stand : List Binding) → SameValues now stand → (asked_entries new ≡ asked_entries old) ⊎ LineRan tapes line stand old new) → (k : ℕ) × InOrder tapes unset (take k lines) (asked_entries new)
-reached_so_far tapes lines i line old new envs j now within is at there stood h f =
-    either_way tapes lines i line old new h.0 within is h.1 (f (h.0 line.caller) (stands_so envs h.0 j line.caller now h.2 at there stood))
-
-pub reached : (tapes : List (List ℕ)) (lines : List Line) (i : ℕ) (history : List Entry) (envs : List (List Binding)) → IsAt tapes lines i history envs → InOrder tapes unset (take i lines) (asked_entries history)
-reached tapes lines i history envs h = in_order tapes (take i lines) history h.0 h.1
-
--- before the first line
-pub none_reached : (tapes : List (List ℕ)) (lines : List Line) (history : List Entry) (envs : List (List Binding)) → history ≡ [] → All (λ variables. variables ≡ []) envs → IsAt tapes lines 0 history envs
-none_reached tapes lines history envs none h = (unset, starts tapes history none, λ k d less name. ap (λ v. value_of v name) (h k d less))
 
 -- what holds of each line holds of the line at a place
 pub line_has : (P : Line → Type 0) (lines : List Line) (i : ℕ) (line : Line) → All P lines → i < length lines → line ≡ get_or lines i line → P line

@@ -1,6 +1,6 @@
 -- The counts of a disk, over several calls.
 use Rattle.std.proofs.Common.{◌≡◌, ◌∙◌, refl, arith}
-use Rattle.std.specs.Prelude.{Result, Ok, Err, false, OnOk}
+use Rattle.std.specs.Prelude.{Result, Ok, Err, false, OnOk, OnErr}
 use Rattle.std.specs.Result.{is_err}
 use Rattle.voice_outside.specs.Disk.{Told}
 use Rattle.voice_store.specs.Facts.{GoesOn}
@@ -15,3 +15,8 @@ goes_further a b c h k = record { size = k.size ∙ h.size; honest = k.honest �
 pub at_done : {T E P : Type 0} (r : Result T E) → is_err r ≡ false → OnOk r P → P
 at_done (Ok x) fine h = h
 at_done (Err e) fine h = cc
+
+-- what stands where it was not done
+pub in_error : {T E P : Type 0} (r : Result T E) → P → OnErr r P
+in_error (Ok x) p = tt
+in_error (Err e) p = p

@@ -3,10 +3,17 @@ pub mod Named
 pub mod Stopped
 pub mod Written
 pub mod Texts
-pub mod Added
 pub mod Followed
+pub mod Added
+pub mod HeardLists
+pub mod Gives
+pub mod Reached
+pub mod LineGiven
+pub mod AllGiven
+pub mod Rested
 pub mod Going
 pub mod Came
+pub mod Finished
 pub mod Exact
 pub mod Pairing
 pub mod Apart
@@ -21,3 +28,4 @@ pub mod Noted
 pub mod Verdicts
 pub mod Counted
 pub mod Standing
+pub mod Left

@@ -4,19 +4,20 @@ use Rattle.std.specs.Prelude.{codes, IsTrue, bytes_eq}
 use Rattle.std.proofs.lemmas.Bool.{false≢true}
 use Rattle.script_lang.specs.Forms.{is_file}
 use Rattle.voice_model.specs.declared.calls.Entry.{Entry}
+use Rattle.voice_outside.specs.Disk.{Told}
 use Rattle.voice_main.specs.declared.options.FormatNumbers.{FormatNumbers}
 use Rattle.voice_main.specs.declared.status.Status.{Status}
-use Rattle.voice_main.specs.declared.status.Status.TheVariants.{Done, Usage, NoMemory}
+use Rattle.voice_main.specs.declared.status.Status.TheVariants.{Done, Usage, ShelfFault, NoMemory}
 use Rattle.voice_main.specs.Words.{Command, Says, run_command, IsSerial, IsThreaded, IsFormat, IsConversion, IsNotes, IsAudit, IsRefused, IsNoRun, IsNoFormat, IsNoConversion, IsNoAudit, IsNoNotes}
 use Rattle.voice_main.specs.declared.convert.Way.{Way}
 use Rattle.voice_main.specs.declared.convert.Way.TheVariants as ways
 use Rattle.voice_main.specs.Conversions.{way_word}
 use Rattle.voice_main.specs.Outside.{Outside}
 use Rattle.voice_main.specs.RunPromise.{RunPromise}
-use Rattle.voice_main.specs.FormatPromise.{FormatPromise}
+use Rattle.voice_main.specs.FormatPromise.{FormatPromise, FormatStatus}
 use Rattle.voice_main.specs.ConversionPromise.{ConversionPromise}
 use Rattle.voice_main.specs.NotesPromise.{NotesPromise}
-use Rattle.voice_main.specs.AuditPromise.{AuditPromise}
+use Rattle.voice_main.specs.AuditPromise.{AuditPromise, AuditComes}
 use Rattle.voice_main.specs.Promises.{Promises, Comes}
 
 -- `--threads` names no file
@@ -230,3 +231,12 @@ refused_of words old new status history (inr h) usage = absurd (aloud h.0 old ne
 
 pub no_memory_done : NoMemory ≡ Done → ⊥
 no_memory_done e = cc
+
+-- ---- the shelf's fault
+
+-- a format meets no fault of the shelf, nor does an audit
+pub format_no_shelf : (numbers : FormatNumbers) (old new : Told) (status : Status) → FormatStatus numbers old new status → status ≡ ShelfFault → ⊥
+format_no_shelf numbers old new status comes is = subst (FormatStatus numbers old new) is comes
+
+pub audit_no_shelf : (old new : Outside) (status : Status) (history : List Entry) → AuditPromise old new status history → status ≡ ShelfFault → ⊥
+audit_no_shelf old new status history h is = subst (AuditComes old new) is h.comes

@@ -50,7 +50,7 @@ module _ (files : Option Files) (shelf : â„•) (contents gained : Option (List â„
   printed_comes NoMemory p = tt
   printed_comes Usage p = absurd p
   printed_comes BadShape p = absurd p
-  printed_comes (BadScript n) p = absurd p
+  printed_comes (BadScript n cause) p = absurd p
   printed_comes (NoFile name) p = absurd p
   printed_comes ShelfFault p = absurd p
   printed_comes (BadDisk place) p = absurd p
@@ -66,7 +66,7 @@ module _ (files : Option Files) (shelf : â„•) (contents gained : Option (List â„
   printed_good NoMemory p = inr (inr (inr tt))
   printed_good Usage p = absurd p
   printed_good BadShape p = absurd p
-  printed_good (BadScript n) p = absurd p
+  printed_good (BadScript n cause) p = absurd p
   printed_good (NoFile name) p = absurd p
   printed_good ShelfFault p = absurd p
   printed_good (BadDisk place) p = absurd p
@@ -82,7 +82,7 @@ module _ (files : Option Files) (shelf : â„•) (contents gained : Option (List â„
   printed_calm NoMemory p calm = inr refl
   printed_calm Usage p calm = absurd p
   printed_calm BadShape p calm = absurd p
-  printed_calm (BadScript n) p calm = absurd p
+  printed_calm (BadScript n cause) p calm = absurd p
   printed_calm (NoFile name) p calm = absurd p
   printed_calm ShelfFault p calm = absurd p
   printed_calm (BadDisk place) p calm = absurd p

@@ -15,9 +15,9 @@ use Rattle.voice_main.specs.Ran.{IsReady}
 use Rattle.voice_main.specs.RunPromise.{IsBadScript}
 use Rattle.voice_main.specs.Statuses.{Stops, script_status_of}
 
-bad_line : (told : Option Files) (name bytes : List ℕ) (n : ℕ) (cause : Cause) → IfSome told (λ files. get files name ≡ Some bytes) → FirstBad is_built_verb bytes n cause → IfSome told (λ files. IsBadScript files name n)
+bad_line : (told : Option Files) (name bytes : List ℕ) (n : ℕ) (cause : Cause) → IfSome told (λ files. get files name ≡ Some bytes) → FirstBad is_built_verb bytes n cause → IfSome told (λ files. IsBadScript files name n cause)
 bad_line None name bytes n cause found bad = tt
-bad_line (Some files) name bytes n cause found bad = record { bytes = bytes; found = found; cause = cause; bad = bad }
+bad_line (Some files) name bytes n cause found bad = record { bytes = bytes; found = found; bad = bad }
 
 pub stops_bad : (told : Option Files) (shelf : Type 0) (name bytes : List ℕ) (e : ScriptError) → IfSome told (λ files. get files name ≡ Some bytes) → ErrsAt is_built_verb bytes e → Stops name told shelf (script_status_of e)
 stops_bad told shelf name bytes (script.BadLine n cause) found bad = bad_line told name bytes n cause found bad

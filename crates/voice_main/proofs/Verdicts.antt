@@ -1,5 +1,5 @@
 -- What the files decide of notes, as one verdict: so that the causes exclude one another.
-use Rattle.std.proofs.Common.{◌≡◌, ℕ, ◌⊎◌, ◌<◌, ◌≤◌, inl, inr, true, false, cond, List, [], ◌∷◌, ◌++◌, length, take, map, Option, Some, None, refl, sym, ap, subst, ◌∙◌, arith, append-nil}
+use Rattle.std.proofs.Common.{◌≡◌, ℕ, ◌⊎◌, ◌<◌, ◌≤◌, inl, inr, true, false, cond, List, [], ◌∷◌, ◌++◌, length, map, Option, Some, None, refl, sym, ap, subst, ◌∙◌, arith}
 use Rattle.std.specs.Prelude.{IfSome, IsTrue, nat_lt, unwrap_or, count_by}
 use Rattle.std.specs.FinMap.{get}
 use Rattle.std.proofs.lemmas.Bool.Decides.{nat_tests}
@@ -247,7 +247,7 @@ exact index files a b c d disk new history NoMemory h = record {
 }
 exact index files a b c d disk new history Usage h = absurd h
 exact index files a b c d disk new history BadShape h = absurd h
-exact index files a b c d disk new history (BadScript n) h = absurd h
+exact index files a b c d disk new history (BadScript n cause) h = absurd h
 exact index files a b c d disk new history (BadAu other cause) h = absurd h
 
 no_faults : (index : List ℕ) (files : Files) (a : ℕ) (b : Option (List ℕ)) (c d : ℕ) (disk : Told) (new : Outside) (history : List Entry) → (HasRisen disk.faults new.disk.faults → ⊥) → NotesSoFar index (outside (Some files) a b c d disk) new history → NoFaults history
@@ -265,7 +265,7 @@ complete index files a b c d disk new history status h so_far = λ named honest 
     by BadShape h named honest read calm dry still = absurd h
     by Usage h named honest read calm dry still = absurd h
     by (BadAu other cause) h named honest read calm dry still = absurd h
-    by (BadScript n) h named honest read calm dry still = absurd h
+    by (BadScript n cause) h named honest read calm dry still = absurd h
     by (NoFile x) h named honest read calm dry still = let e : Verdict.Absent x ≡ Verdict.Fine = sym (judged_absent files index x h) ∙ judged_fine files index named in cc
     by (BadIndex m) h named honest read calm dry still = let e : Verdict.Line m ≡ Verdict.Fine = sym (judged_line files index m h) ∙ judged_fine files index named in cc
     by (BadNote other at) h named honest read calm dry still = let e : Verdict.Anchor other at ≡ Verdict.Fine = sym (judged_anchor files index other at h) ∙ judged_fine files index named in cc
@@ -296,7 +296,7 @@ began_of None index keys old new history named performed = tt
 began_of (Some files) index keys old new history named performed = record { keys = keys; named = named; performed = performed }
 
 comes_named : (index : List ℕ) (told : Option Files) (a : ℕ) (b : Option (List ℕ)) (c d : ℕ) (disk : Told) (new : Outside) (keys : List (List ℕ)) (history : List Entry) (status : Status) → IfSome told (λ files. AreNamed files index keys)
-    → Performs (SinkFaulted (outside told a b c d disk) new) disk new.disk status → (status ≡ Done → Performed [] (λ honest first. IsOneCensus keys honest first history) disk new.disk history)
+    → Performs ⊥ (SinkFaulted (outside told a b c d disk) new) disk new.disk status → (status ≡ Done → Performed [] (λ honest first. IsOneCensus keys honest first history) disk new.disk history)
     → (status ≡ SinkFault → Performed [] (λ honest first. IsOneCensus keys honest first history) disk new.disk history) → NotesComes index (outside told a b c d disk) new history status
 comes_named index told a b c d disk new keys history Done named which done fault = ran_of told index keys disk new.disk history named (done refl)
 comes_named index told a b c d disk new keys history SinkFault named which done fault = (which, ran_of told index keys disk new.disk history named (fault refl))
@@ -305,7 +305,7 @@ comes_named index told a b c d disk new keys history (BadDisk place) named which
 comes_named index told a b c d disk new keys history DiskFault named which done fault = (which, have_of told index keys named)
 comes_named index told a b c d disk new keys history Usage named which done fault = absurd which
 comes_named index told a b c d disk new keys history BadShape named which done fault = absurd which
-comes_named index told a b c d disk new keys history (BadScript n) named which done fault = absurd which
+comes_named index told a b c d disk new keys history (BadScript n cause) named which done fault = absurd which
 comes_named index told a b c d disk new keys history (NoFile missing) named which done fault = absurd which
 comes_named index told a b c d disk new keys history ShelfFault named which done fault = absurd which
 comes_named index told a b c d disk new keys history (BadAu other cause) named which done fault = absurd which
@@ -313,9 +313,13 @@ comes_named index told a b c d disk new keys history (BadIndex n) named which do
 comes_named index told a b c d disk new keys history (BadNote note place) named which done fault = absurd which
 comes_named index told a b c d disk new keys history (TooManyKeys count) named which done fault = absurd which
 
+-- a census whose keys are named meets no fault of the shelf
+pub named_well : (sink : Type 0) (old new : Told) (status : Status) → Performs ⊥ sink old new status → status ≡ ShelfFault → ⊥
+named_well sink old new status which is = subst (λ (s : Status). Performs ⊥ sink old new s) is which
+
 -- a census of keys that are named
 pub promised_census : (index : List ℕ) (told : Option Files) (a : ℕ) (b : Option (List ℕ)) (c d : ℕ) (disk : Told) (new : Outside) (keys : List (List ℕ)) (history : List Entry) (status : Status) → IfSome told (λ files. AreNamed files index keys)
-    → Performs (SinkFaulted (outside told a b c d disk) new) disk new.disk status → (status ≡ Done → Performed [] (λ honest first. IsOneCensus keys honest first history) disk new.disk history)
+    → Performs ⊥ (SinkFaulted (outside told a b c d disk) new) disk new.disk status → (status ≡ Done → Performed [] (λ honest first. IsOneCensus keys honest first history) disk new.disk history)
     → (status ≡ SinkFault → Performed [] (λ honest first. IsOneCensus keys honest first history) disk new.disk history)
     → ((history ≡ []) × IsUnchanged disk new.disk) ⊎ Performed [] (λ honest first. IsCensusSoFar keys honest first history) disk new.disk history
     → (status ≡ Done → IfSome b (λ had. new.contents ≡ Some (had ++ text_of history))) → NotesPromise index (outside told a b c d disk) new status history
@@ -333,7 +337,7 @@ stopped index told a b c d disk new history (BadDisk place) h = absurd h
 stopped index told a b c d disk new history DiskFault h = absurd h
 stopped index told a b c d disk new history Usage h = h
 stopped index told a b c d disk new history BadShape h = h
-stopped index told a b c d disk new history (BadScript n) h = h
+stopped index told a b c d disk new history (BadScript n cause) h = h
 stopped index told a b c d disk new history (NoFile x) h = h
 stopped index told a b c d disk new history ShelfFault h = h
 stopped index told a b c d disk new history NoMemory h = h
@@ -349,8 +353,3 @@ promised_notes_stop index told a b c d disk later e f g h history status stops n
     promised index told a b c d disk (outside later e f g h disk) history status (stopped index told a b c d disk (outside later e f g h disk) history status stops)
     (inl (record { silent = none; disk = λ honest. record { bytes = refl; now = λ image left. left; crash = λ t image within left. inl left } }))
     (λ is. absurd (subst (NotesStop index told (HasRisen a e)) is stops))
-
--- where nothing was printed, none of the text was
-pub nothing_more : (contents : Option (List ℕ)) (text : List ℕ) → IfSome contents (λ had. (n : ℕ) × (contents ≡ Some (had ++ take n text)))
-nothing_more None text = tt
-nothing_more (Some had) text = (0, ap Some (sym (append-nil had)))

@@ -22,7 +22,7 @@ use Rattle.voice_notes.specs.Index.{names_in, bad_line}
 use Rattle.voice_main.specs.declared.status.Status.{Status}
 use Rattle.voice_main.specs.declared.status.Status.TheVariants.{NoFile, ShelfFault, NoMemory, BadIndex, BadNote, TooManyKeys}
 use Rattle.voice_main.specs.Load.{AreFiles, FirstAbsent}
-use Rattle.voice_main.specs.Ordered.{asked_entries}
+use Rattle.servings.specs.Asked.{asked_entries}
 
 -- the keys of the notes' anchors, each once, in order of first place
 abbrev pub keys_of : List (List ℕ) → List (List ℕ)

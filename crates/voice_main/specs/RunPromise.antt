@@ -2,6 +2,7 @@
 --     IsBadScript, IsNoFile      what the files decide
 --     RunComes      when each status comes
 --     RunSoFar      what stands of the history, whatever the status is
+--     FilesAreLeft      what stands of the files where the run is not done
 --     IsExact      each cause gives its status, but for faults and want of memory
 --     IsComplete      where all is there and no count rose, the run is done, or memory was wanted
 --     RunPromise threads name old new status history      all of it
@@ -22,15 +23,15 @@ use Rattle.script_lang.specs.Grammar.{IsScript}
 use Rattle.script_lang.specs.Causes.{FirstBad}
 use Rattle.voice_main.specs.declared.status.Status.{Status}
 use Rattle.voice_main.specs.declared.status.Status.TheVariants.{Done, Usage, BadShape, BadScript, NoFile, ShelfFault, SinkFault, BadDisk, DiskFault, NoMemory, BadAu, BadIndex, BadNote, TooManyKeys}
+use Rattle.voice_main.specs.FormatPromise.{IsLeft}
 use Rattle.voice_main.specs.Load.{FirstAbsent}
 use Rattle.voice_main.specs.Outside.{Outside, ShelfFaulted, SinkFaulted, DiskFaulted, IsUnchanged}
-use Rattle.voice_main.specs.Ran.{IsThere, RanSoFar, RanWhole}
+use Rattle.voice_main.specs.Ran.{IsThere, RanSoFar, RanWhole, RanInto}
 
--- line n of the script is its first bad line
-pub record IsBadScript (files : Files) (name : List ℕ) (n : ℕ) : Type 0 where
+-- line n of the script is its first bad line, for that cause
+pub record IsBadScript (files : Files) (name : List ℕ) (n : ℕ) (cause : Cause) : Type 0 where
   pub bytes : List ℕ
   pub found : get files name ≡ Some bytes
-  pub cause : Cause
   pub bad : FirstBad is_built_verb bytes n cause
 
 -- the script is there, and that is its first sample file that is absent
@@ -57,15 +58,15 @@ pub record IsRead (disk : Told) : Type 0 where
 
 -- when each status comes
 abbrev pub RunComes : Bool → List ℕ → Outside → Outside → List Entry → Status → Type 0
-RunComes threads name old new history Done = IfSome old.files (λ files. RanWhole threads files name old.disk new.disk history)
-RunComes threads name old new history SinkFault = SinkFaulted old new × IfSome old.files (λ files. RanWhole threads files name old.disk new.disk history)
+RunComes threads name old new history Done = IfSome old.files (λ files. RanWhole threads files name old new history)
+RunComes threads name old new history SinkFault = SinkFaulted old new × IfSome old.files (λ files. RanWhole threads files name old new history)
 RunComes threads name old new history Usage = ⊥
 RunComes threads name old new history BadShape = ⊥
 RunComes threads name old new history (BadAu other cause) = ⊥
 RunComes threads name old new history (BadIndex line) = ⊥
 RunComes threads name old new history (BadNote note place) = ⊥
 RunComes threads name old new history (TooManyKeys count) = ⊥
-RunComes threads name old new history (BadScript n) = IfSome old.files (λ files. IsBadScript files name n)
+RunComes threads name old new history (BadScript n cause) = IfSome old.files (λ files. IsBadScript files name n cause)
 RunComes threads name old new history (NoFile missing) = IfSome old.files (λ files. IsNoFile files name missing)
 RunComes threads name old new history ShelfFault = ShelfFaulted old new
 RunComes threads name old new history (BadDisk place) = IsDamaged old.disk place × IfSome old.files (λ files. IsThere files name)
@@ -81,6 +82,22 @@ pub record IsUnopened (old new : Outside) (history : List Entry) : Type 0 where
 abbrev pub RunSoFar : Bool → List ℕ → Outside → Outside → List Entry → Type 0
 RunSoFar threads name old new history = IsUnopened old new history ⊎ IfSome old.files (λ files. RanSoFar threads files name old.disk new.disk history)
 
+-- no call was made: the files, the disk and what the sink took are as they were
+pub record IsUntouched (old new : Outside) (history : List Entry) : Type 0 where
+  pub silent : history ≡ []
+  pub files : new.files ≡ old.files
+  pub disk : IsLeft old.disk new.disk
+  pub crash : (moment : ℕ) (image : List ℕ) → new.disk.may_leave moment image → old.disk.may_leave moment image
+  pub contents : new.contents ≡ old.contents
+
+-- what stands of the files: those of all servings are set where the run is done, or only its text couldn't be printed; on every other status none is, or some of the first where one couldn't be set
+abbrev pub FilesAreLeft : Bool → Files → List ℕ → Outside → Outside → List Entry → Status → Type 0
+FilesAreLeft threads files name old new history Done = Unit {0}
+FilesAreLeft threads files name old new history SinkFault = Unit {0}
+FilesAreLeft threads files name old new history NoMemory = (new.files ≡ Some files) ⊎ RanWhole threads files name old new history ⊎ RanInto threads files name old new history
+FilesAreLeft threads files name old new history ShelfFault = IsUntouched old new history ⊎ RanInto threads files name old new history
+FilesAreLeft threads files name old new history status = new.files ≡ Some files
+
 -- the two statuses that may come in place of one that the files decide
 abbrev pub IsExcused : Status → Type 0
 IsExcused ShelfFault = Unit {0}
@@ -93,7 +110,7 @@ IsOr wanted status = (status ≡ wanted) ⊎ IsExcused status
 
 -- what the files and the disk's bytes decide comes, but for faults and want of memory
 pub record IsExact (files : Files) (name : List ℕ) (disk : Told) (status : Status) : Type 0 where
-  pub bad_script : (n : ℕ) → IsBadScript files name n → IsOr (BadScript n) status
+  pub bad_script : (n : ℕ) (cause : Cause) → IsBadScript files name n cause → IsOr (BadScript n cause) status
   pub no_file : (missing : List ℕ) → IsNoFile files name missing → IsOr (NoFile missing) status
   pub bad_disk : (place : ℕ) → IsThere files name → IsTrue disk.honest → image.reading disk.bytes ≡ image.Reading.Bad place → (status ≡ DiskFault) ⊎ IsOr (BadDisk place) status
   pub good_disk : IsThere files name → IsTrue disk.honest → IsRead disk → (status ≡ SinkFault) ⊎ (status ≡ DiskFault) ⊎ IsOr Done status
@@ -114,5 +131,6 @@ pub record RunPromise (threads : Bool) (name : List ℕ) (old new : Outside) (st
   pub so_far : RunSoFar threads name old new history
   pub exact : IfSome old.files (λ files. IsExact files name old.disk status)
   pub complete : IfSome old.files (λ files. IsComplete files name old new history status)
+  pub left : IfSome old.files (λ files. FilesAreLeft threads files name old new history status)
   -- a finished run prints the text of its history and nothing else
   pub done : status ≡ Done → IfSome old.contents (λ had. new.contents ≡ Some (had ++ text_of history))

@@ -49,6 +49,7 @@ fn call_census<D: Disk, G: Gate>(
     Ok(Called {
         disk,
         history,
+        heard: Vec::new(alloc),
         is_finished: made.is_ok(),
     })
 }
@@ -64,7 +65,7 @@ fn counted<O: Sink, D: Disk, G: Gate>(
     ensures so_far { ((result.history.items ≡ []) × IsUnchanged (D.told disk) (D.told result.disk)) ⊎ Performed [] (λ honest first. IsCensusSoFar keys honest first result.history.items) (D.told disk) (D.told result.disk) result.history.items }
     ensures whole { result.status ≡ Status.Done → Performed [] (λ honest first. IsOneCensus keys honest first result.history.items) (D.told disk) (D.told result.disk) result.history.items }
     ensures sink_fault { result.status ≡ Status.SinkFault → Performed [] (λ honest first. IsOneCensus keys honest first result.history.items) (D.told disk) (D.told result.disk) result.history.items }
-    ensures which { Performs (HasRisen (O.faults out.old) (O.faults out.new) ⊎ HasRisen (O.empty_takes out.old) (O.empty_takes out.new)) (D.told disk) (D.told result.disk) result.status }
+    ensures which { Performs ⊥ (HasRisen (O.faults out.old) (O.faults out.new) ⊎ HasRisen (O.empty_takes out.old) (O.empty_takes out.new)) (D.told disk) (D.told result.disk) result.status }
     ensures done { result.status ≡ Status.Done → IfSome (O.contents out.old) (λ had. O.contents out.new ≡ Some (had ++ text_of result.history.items)) }
     ensures prefix { IfSome (O.contents out.old) (λ had. (n : ℕ) × (O.contents out.new ≡ Some (had ++ take n (text_of result.history.items)))) }
     ensures silent { IsSilent result.status → (result.history.items ≡ []) × (O.contents out.new ≡ O.contents out.old) }
@@ -109,6 +110,8 @@ pub fn census<K: Shelf, O: Sink, D: Disk, G: Gate>(
     // A status that is decided before the first call leaves no history and prints nothing; one that is decided before the disk is touched leaves the disk.
     ensures silent { IsSilent result.status → (result.history.items ≡ []) × (O.contents out.new ≡ O.contents out.old) }
     ensures early { IsEarly result.status → result.disk ≡ disk }
+    // The shelf faults before the disk is touched.
+    ensures shelf { result.status ≡ Status.ShelfFault → (result.disk ≡ disk) × (result.history.items ≡ []) × (O.contents out.new ≡ O.contents out.old) }
     // The disk keeps its size, and its counts never fall.
     ensures disk { GoesOn (D.told disk) (D.told result.disk) }
 {

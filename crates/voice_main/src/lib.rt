@@ -11,6 +11,7 @@ mod notes;
 mod numbers;
 mod options;
 mod output;
+mod played;
 mod script_lines;
 mod status;
 mod threads;

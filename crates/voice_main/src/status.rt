@@ -1,9 +1,10 @@
 //! How a run ended.
 
 ghost use Rattle.std.specs.Prelude.{◌≡◌};
-ghost use Rattle.voice_main.specs.Statuses.{code_of};
+ghost use Rattle.voice_main.specs.Statuses.{code_of, reason_of};
 
 use au_files::AuError;
+use script_lang::Cause;
 use thiserror::Error;
 use voice_units::Name;
 
@@ -19,9 +20,9 @@ pub enum Status {
     /// A disk of that size can't have the shape.
     #[error("voice: the shape does not fit the disk")]
     BadShape,
-    /// That line, counted from 1, is the script's first bad one.
-    #[error("voice: line {0} of the script is refused")]
-    BadScript(u32),
+    /// That line, counted from 1, is the script's first bad one, for that cause.
+    #[error("voice: line {0} of the script is refused: {reason}", reason = reason(.1))]
+    BadScript(u32, Cause),
     /// The script or a sample file is absent: the first one.
     #[error("voice: no file {0}")]
     NoFile(Name),
@@ -51,6 +52,21 @@ pub enum Status {
     TooManyKeys(u64),
 }
 
+// The cause of a bad line of a script, as the program tells it.
+fn reason(cause: &Cause) -> &'static str
+    ensures { result.now ≡ reason_of cause.now }
+{
+    match cause {
+        Cause::Lines => "more than 65535 lines",
+        Cause::Bytes => "a byte other than printed ASCII, space and tab",
+        Cause::Caller => "no caller from 1 to 16 at its beginning",
+        Cause::Verb => "no known verb where one belongs",
+        Cause::Arguments => "wrong words behind the verb",
+        Cause::Bind => "what is bound is no variable, or the verb binds nothing",
+        Cause::LaneTaken => "another caller serves that lane",
+    }
+}
+
 impl Status {
     /// The exit status of the program.
     pub fn code(&self) -> u8
@@ -59,7 +75,7 @@ impl Status {
         match self {
             Status::Done => 0,
             Status::Usage | Status::BadShape => 2,
-            Status::BadScript(_) => 3,
+            Status::BadScript(_, _) => 3,
             Status::NoFile(_) => 4,
             Status::ShelfFault => 5,
             Status::SinkFault => 6,

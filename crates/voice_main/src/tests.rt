@@ -4,6 +4,7 @@ use crate::assigned::assigned;
 use crate::options::{FormatNumbers, format_numbers};
 use crate::{Status, run};
 use au_files::AuError;
+use script_lang::Cause;
 use std::alloc::Global;
 use std::sync::Wait;
 use std::test::Fail;
@@ -93,25 +94,25 @@ fn scripts_print_their_replies(rt: HostRuntime) -> Result<(), Fail> {
         (
             ["run", "s"].as_slice(),
             "1 sing a",
-            Status::BadScript(1),
+            Status::BadScript(1, Cause::Verb),
             "",
         ),
         (
             ["run", "s"].as_slice(),
             "1 record f20\n17 record f20",
-            Status::BadScript(2),
+            Status::BadScript(2, Cause::Caller),
             "",
         ),
         (
             ["run", "s"].as_slice(),
             "1 record f20\n\n01 record f20",
-            Status::BadScript(3),
+            Status::BadScript(3, Cause::Caller),
             "",
         ),
         (
             ["run", "s"].as_slice(),
             "1 record gone\n1 sing a",
-            Status::BadScript(2),
+            Status::BadScript(2, Cause::Verb),
             "",
         ),
         (
@@ -127,6 +128,16 @@ fn scripts_print_their_replies(rt: HostRuntime) -> Result<(), Fail> {
         assert_eq!(rt; ended, status, "{script}");
         assert_eq!(rt; printed.as_slice(), text.as_bytes(), "{script}");
     }
+    Ok(())
+}
+
+#[test]
+fn a_bad_line_is_told_with_its_reason(rt: HostRuntime) -> Result<(), Fail> {
+    let told = format!(in rt.alloc(); "{}", Status::BadScript(3, Cause::Verb))?;
+    assert_eq!(rt;
+        told.as_str(),
+        "voice: line 3 of the script is refused: no known verb where one belongs"
+    );
     Ok(())
 }
 

@@ -7,10 +7,12 @@ ghost use Rattle.voice_outside.specs.Counters.{HasRisen};
 ghost use Rattle.script_lang.specs.Verbs.{is_built_verb};
 ghost use Rattle.script_lang.specs.Whole.{IsWhole};
 ghost use Rattle.voice_store.specs.Facts.{GoesOn};
-ghost use Rattle.voice_main.specs.Words.{Command, Says, IsRefused, IsConversion, IsNoConversion, IsNoAudit, IsNoNotes};
+ghost use Rattle.served_files.specs.Files.{AreEnough, queues_of};
+ghost use Rattle.voice_main.specs.Words.{Command, Says, IsRefused, IsConversion, IsNoRun, IsNoConversion, IsNoAudit, IsNoNotes};
 ghost use Rattle.voice_main.specs.declared.convert.Way.{Way as WayValue};
 ghost use Rattle.voice_main.specs.Outside.{outside, IsUnchanged};
-ghost use Rattle.voice_main.specs.Ran.{IsReady, Performed, Begun, Made};
+ghost use Rattle.voice_main.specs.Ran.{IsReady, Performed, Begun, MadeGiving};
+ghost use Rattle.voice_main.specs.Played.{Leaves};
 ghost use Rattle.voice_main.specs.RunPromise.{RunPromise};
 ghost use Rattle.voice_main.specs.Promises.{Comes, Promises};
 ghost use Rattle.voice_main.specs.Statuses.{Stops, Opens, Performs, IsEarly, IsSilent, open_status_of, script_status_of};
@@ -22,12 +24,13 @@ use crate::convert::convert;
 use crate::format::format;
 use crate::load::{file, files, load_status};
 use crate::options::format_numbers;
-use crate::output::print;
+use crate::played::finish;
 use crate::script_lines::run_lines;
 use crate::status::Status;
 use crate::threads::call_on_threads;
 use crate::words::{conversion_words, is_audit, notes_words, run_words};
 use script_lang::{Script, ScriptError, parse};
+use served_files::Heard;
 use std::alloc::Global;
 use std::sync::{Arc, Wait};
 use std::thread::Threads;
@@ -55,7 +58,7 @@ fn script_status(e: ScriptError) -> Status
     ensures { result ≡ script_status_of e }
 {
     match e {
-        ScriptError::BadLine(line, _) => Status::BadScript(line),
+        ScriptError::BadLine(line, cause) => Status::BadScript(line, cause),
         ScriptError::NoMemory => Status::NoMemory,
     }
 }
@@ -97,11 +100,12 @@ fn prepared<K: Shelf>(alloc: Global, name: &Name, shelf: &mut K) -> Result<Scrip
     Ok(Scripted { script, tapes })
 }
 
-/// The disk and the history that the calls of a script left.
+/// The disk and the history that the calls of a script left, and what each caller heard, that of caller 1 first.
 #[derive(Drop)]
 pub(crate) struct Called<D> {
     pub(crate) disk: D,
     pub(crate) history: Vec<Entry>,
+    pub(crate) heard: Vec<Vec<Heard>>,
     pub(crate) is_finished: bool,
 }
 
@@ -115,7 +119,8 @@ fn call_lines<D: Disk, G: Gate>(
     requires whole { IsWhole is_built_verb scripted.now.script }
     requires there { length (arc_value scripted.now.tapes) ≡ length scripted.now.script.samples }
     ensures so_far { IfOk result (λ called. (k : ℕ) × Performed (arc_value scripted.now.tapes) (Begun false (arc_value scripted.now.tapes) scripted.now.script k called.history.items) (D.told disk) (D.told called.disk) called.history.items) }
-    ensures finished { IfOk result (λ called. called.is_finished ≡ true → Performed (arc_value scripted.now.tapes) (Made false (arc_value scripted.now.tapes) scripted.now.script called.history.items) (D.told disk) (D.told called.disk) called.history.items) }
+    ensures finished { IfOk result (λ called. called.is_finished ≡ true → Performed (arc_value scripted.now.tapes) (MadeGiving false (arc_value scripted.now.tapes) scripted.now.script called.history.items (queues_of called.heard.items)) (D.told disk) (D.told called.disk) called.history.items) }
+    ensures enough { IfOk result (λ called. called.is_finished ≡ true → AreEnough called.history.items called.heard.items × (length called.heard.items ≤ 16)) }
     ensures opens { IfErr result (λ e. Opens (D.told disk) (D.told e.1) e.0) }
     ensures looks { IfErr result (λ e. IsUnchanged (D.told disk) (D.told e.1)) }
     ensures goes { IfOk result (λ called. GoesOn (D.told disk) (D.told called.disk)) }
@@ -130,10 +135,19 @@ fn call_lines<D: Disk, G: Gate>(
     };
     let ran = run_lines(alloc, &mut store, &scripted.tapes, &scripted.script, gate);
     let (disk, history) = store.close();
+    let Ok(heard) = ran else {
+        return Ok(Called {
+            disk,
+            history,
+            heard: Vec::new(alloc),
+            is_finished: false,
+        });
+    };
     Ok(Called {
         disk,
         history,
-        is_finished: ran.is_ok(),
+        heard,
+        is_finished: true,
     })
 }
 
@@ -149,7 +163,8 @@ fn call_all<R: Threads + Wait + Sync, D: Disk, G: Gate>(
     requires whole { IsWhole is_built_verb scripted.now.script }
     requires there { length (arc_value scripted.now.tapes) ≡ length scripted.now.script.samples }
     ensures so_far { IfOk result (λ called. (k : ℕ) × Performed (arc_value scripted.now.tapes) (Begun threads (arc_value scripted.now.tapes) scripted.now.script k called.history.items) (D.told disk) (D.told called.disk) called.history.items) }
-    ensures finished { IfOk result (λ called. called.is_finished ≡ true → Performed (arc_value scripted.now.tapes) (Made threads (arc_value scripted.now.tapes) scripted.now.script called.history.items) (D.told disk) (D.told called.disk) called.history.items) }
+    ensures finished { IfOk result (λ called. called.is_finished ≡ true → Performed (arc_value scripted.now.tapes) (MadeGiving threads (arc_value scripted.now.tapes) scripted.now.script called.history.items (queues_of called.heard.items)) (D.told disk) (D.told called.disk) called.history.items) }
+    ensures enough { IfOk result (λ called. called.is_finished ≡ true → AreEnough called.history.items called.heard.items × (length called.heard.items ≤ 16)) }
     ensures opens { IfErr result (λ e. Opens (D.told disk) (D.told e.1) e.0) }
     ensures looks { IfErr result (λ e. IsUnchanged (D.told disk) (D.told e.1)) }
     ensures goes { IfOk result (λ called. GoesOn (D.told disk) (D.told called.disk)) }
@@ -161,12 +176,13 @@ fn call_all<R: Threads + Wait + Sync, D: Disk, G: Gate>(
     call_lines(alloc, scripted, disk, gate)
 }
 
-// Makes the calls of a script, and prints their history.
-fn perform<R: Threads + Wait + Sync, O: Sink, D: Disk, G: Gate>(
+// Makes the calls of a script, sets the files that they gave, and prints their history.
+fn perform<R: Threads + Wait + Sync, K: Shelf, O: Sink, D: Disk, G: Gate>(
     rt: &R,
     alloc: Global,
     threads: bool,
     scripted: &Scripted,
+    shelf: &mut K,
     out: &mut O,
     disk: D,
     gate: &G,
@@ -174,11 +190,11 @@ fn perform<R: Threads + Wait + Sync, O: Sink, D: Disk, G: Gate>(
     requires whole { IsWhole is_built_verb scripted.now.script }
     requires there { length (arc_value scripted.now.tapes) ≡ length scripted.now.script.samples }
     ensures so_far { ((result.history.items ≡ []) × IsUnchanged (D.told disk) (D.told result.disk)) ⊎ ((k : ℕ) × Performed (arc_value scripted.now.tapes) (Begun threads (arc_value scripted.now.tapes) scripted.now.script k result.history.items) (D.told disk) (D.told result.disk) result.history.items) }
-    ensures whole { result.status ≡ Status.Done → Performed (arc_value scripted.now.tapes) (Made threads (arc_value scripted.now.tapes) scripted.now.script result.history.items) (D.told disk) (D.told result.disk) result.history.items }
-    ensures sink_fault { result.status ≡ Status.SinkFault → Performed (arc_value scripted.now.tapes) (Made threads (arc_value scripted.now.tapes) scripted.now.script result.history.items) (D.told disk) (D.told result.disk) result.history.items }
-    ensures which { Performs (HasRisen (O.faults out.old) (O.faults out.new) ⊎ HasRisen (O.empty_takes out.old) (O.empty_takes out.new)) (D.told disk) (D.told result.disk) result.status }
+    ensures left { IfSome (K.files shelf.old) (λ files. Leaves threads (arc_value scripted.now.tapes) scripted.now.script files (K.files shelf.new) (D.told disk) (D.told result.disk) result.history.items result.status) }
+    ensures which { Performs (HasRisen (K.faults shelf.old) (K.faults shelf.new)) (HasRisen (O.faults out.old) (O.faults out.new) ⊎ HasRisen (O.empty_takes out.old) (O.empty_takes out.new)) (D.told disk) (D.told result.disk) result.status }
     ensures done { result.status ≡ Status.Done → IfSome (O.contents out.old) (λ had. O.contents out.new ≡ Some (had ++ text_of result.history.items)) }
     ensures prefix { IfSome (O.contents out.old) (λ had. (n : ℕ) × (O.contents out.new ≡ Some (had ++ take n (text_of result.history.items)))) }
+    ensures unprinted { result.status ≡ Status.ShelfFault → O.contents out.new ≡ O.contents out.old }
     ensures silent { IsSilent result.status → (result.history.items ≡ []) × (O.contents out.new ≡ O.contents out.old) }
     ensures goes { GoesOn (D.told disk) (D.told result.disk) }
 {
@@ -197,7 +213,7 @@ fn perform<R: Threads + Wait + Sync, O: Sink, D: Disk, G: Gate>(
             history: called.history,
         };
     }
-    let status = print(alloc, &called.history, out);
+    let status = finish(alloc, &called.history, &called.heard, shelf, out);
     Ended {
         status,
         disk: called.disk,
@@ -217,17 +233,18 @@ fn run_script<R: Threads + Wait + Sync, K: Shelf, O: Sink, D: Disk, G: Gate>(
     gate: &G,
 ) -> Ended<D>
     ensures promise { RunPromise threads name.now (outside (K.files shelf.old) (K.faults shelf.old) (O.contents out.old) (O.faults out.old) (O.empty_takes out.old) (D.told disk)) (outside (K.files shelf.new) (K.faults shelf.new) (O.contents out.new) (O.faults out.new) (O.empty_takes out.new) (D.told result.disk)) result.status result.history.items }
-    // What stands after any status: the front of the text that the sink took, and the files.
+    // What stands after any status: the front of the text that the sink took.
     ensures prefix { IfSome (O.contents out.old) (λ had. (n : ℕ) × (O.contents out.new ≡ Some (had ++ take n (text_of result.history.items)))) }
-    ensures files { K.files shelf.new ≡ K.files shelf.old }
     // A status that is decided before the first call leaves no history and prints nothing; one that is decided before the disk is touched leaves the disk.
     ensures silent { IsSilent result.status → (result.history.items ≡ []) × (O.contents out.new ≡ O.contents out.old) }
     ensures early { IsEarly result.status → result.disk ≡ disk }
+    // A status of the shelf's fault prints nothing, also where it comes after the calls.
+    ensures unprinted { result.status ≡ Status.ShelfFault → O.contents out.new ≡ O.contents out.old }
     // The disk keeps its size, and its counts never fall.
     ensures disk { GoesOn (D.told disk) (D.told result.disk) }
 {
     match prepared(alloc, name, shelf) {
-        Ok(scripted) => perform(rt, alloc, threads, &scripted, out, disk, gate),
+        Ok(scripted) => perform(rt, alloc, threads, &scripted, shelf, out, disk, gate),
         Err(status) => Ended {
             status,
             disk,
@@ -256,12 +273,16 @@ fn run_or_format<R: Threads + Wait + Sync, K: Shelf, O: Sink, D: Disk, G: Gate>(
     // Usage comes exactly where the words are refused.
     ensures usage { IsRefused (map string_bytes words.now) → result.status ≡ Status.Usage }
     ensures refused { result.status ≡ Status.Usage → IsRefused (map string_bytes words.now) }
-    // What stands after any status: the front of the text that the sink took, and the files.
+    // What stands after any status: the front of the text that the sink took, and the files, but for a run, whose promise tells them.
     ensures prefix { IfSome (O.contents out.old) (λ had. (n : ℕ) × (O.contents out.new ≡ Some (had ++ take n (text_of result.history.items)))) }
-    ensures files { K.files shelf.new ≡ K.files shelf.old }
+    ensures files { IsNoRun (map string_bytes words.now) → K.files shelf.new ≡ K.files shelf.old }
     // A status that is decided before the first call leaves no history and prints nothing; one that is decided before the disk is touched leaves the disk.
     ensures silent { IsSilent result.status → (result.history.items ≡ []) × (O.contents out.new ≡ O.contents out.old) }
     ensures early { IsEarly result.status → result.disk ≡ disk }
+    // A status of the shelf's fault prints nothing, also where it comes after the calls.
+    ensures unprinted { result.status ≡ Status.ShelfFault → O.contents out.new ≡ O.contents out.old }
+    // Where no script is run, it comes before the disk is touched.
+    ensures shelf { IsNoRun (map string_bytes words.now) → result.status ≡ Status.ShelfFault → (result.disk ≡ disk) × (result.history.items ≡ []) × (O.contents out.new ≡ O.contents out.old) }
     // The disk keeps its size, and its counts never fall.
     ensures disk { GoesOn (D.told disk) (D.told result.disk) }
 {
@@ -319,12 +340,16 @@ fn run_notes_or_other<R: Threads + Wait + Sync, K: Shelf, O: Sink, D: Disk, G: G
     // Usage comes exactly where the words are refused.
     ensures usage { IsRefused (map string_bytes words.now) → result.status ≡ Status.Usage }
     ensures refused { result.status ≡ Status.Usage → IsRefused (map string_bytes words.now) }
-    // What stands after any status: the front of the text that the sink took, and the files.
+    // What stands after any status: the front of the text that the sink took, and the files, but for a run, whose promise tells them.
     ensures prefix { IfSome (O.contents out.old) (λ had. (n : ℕ) × (O.contents out.new ≡ Some (had ++ take n (text_of result.history.items)))) }
-    ensures files { K.files shelf.new ≡ K.files shelf.old }
+    ensures files { IsNoRun (map string_bytes words.now) → K.files shelf.new ≡ K.files shelf.old }
     // A status that is decided before the first call leaves no history and prints nothing; one that is decided before the disk is touched leaves the disk.
     ensures silent { IsSilent result.status → (result.history.items ≡ []) × (O.contents out.new ≡ O.contents out.old) }
     ensures early { IsEarly result.status → result.disk ≡ disk }
+    // A status of the shelf's fault prints nothing, also where it comes after the calls.
+    ensures unprinted { result.status ≡ Status.ShelfFault → O.contents out.new ≡ O.contents out.old }
+    // Where no script is run, it comes before the disk is touched.
+    ensures shelf { IsNoRun (map string_bytes words.now) → result.status ≡ Status.ShelfFault → (result.disk ≡ disk) × (result.history.items ≡ []) × (O.contents out.new ≡ O.contents out.old) }
     // The disk keeps its size, and its counts never fall.
     ensures disk { GoesOn (D.told disk) (D.told result.disk) }
 {
@@ -352,12 +377,16 @@ fn run_audit_or_other<R: Threads + Wait + Sync, K: Shelf, O: Sink, D: Disk, G: G
     // Usage comes exactly where the words are refused.
     ensures usage { IsRefused (map string_bytes words.now) → result.status ≡ Status.Usage }
     ensures refused { result.status ≡ Status.Usage → IsRefused (map string_bytes words.now) }
-    // What stands after any status: the front of the text that the sink took, but for an audit, whose promise tells it, and the files.
+    // What stands after any status: the front of the text that the sink took, but for an audit, and the files, but for a run; their promises say what becomes of them.
     ensures prefix { IsNoAudit (map string_bytes words.now) → IfSome (O.contents out.old) (λ had. (n : ℕ) × (O.contents out.new ≡ Some (had ++ take n (text_of result.history.items)))) }
-    ensures files { K.files shelf.new ≡ K.files shelf.old }
+    ensures files { IsNoRun (map string_bytes words.now) → K.files shelf.new ≡ K.files shelf.old }
     // A status that is decided before the first call leaves no history and prints nothing; one that is decided before the disk is touched leaves the disk.
     ensures silent { IsSilent result.status → (result.history.items ≡ []) × (O.contents out.new ≡ O.contents out.old) }
     ensures early { IsEarly result.status → result.disk ≡ disk }
+    // A status of the shelf's fault prints nothing, also where it comes after the calls.
+    ensures unprinted { result.status ≡ Status.ShelfFault → O.contents out.new ≡ O.contents out.old }
+    // Where no script is run, it comes before the disk is touched.
+    ensures shelf { IsNoRun (map string_bytes words.now) → result.status ≡ Status.ShelfFault → (result.disk ≡ disk) × (result.history.items ≡ []) × (O.contents out.new ≡ O.contents out.old) }
     // The disk keeps its size, and its counts never fall.
     ensures disk { GoesOn (D.told disk) (D.told result.disk) }
 {
@@ -384,12 +413,16 @@ pub fn run<R: Threads + Wait + Sync, K: Shelf, O: Sink, D: Disk, G: Gate>(
     // Usage comes exactly where the words are refused.
     ensures usage { IsRefused (map string_bytes words.now) → result.status ≡ Status.Usage }
     ensures refused { result.status ≡ Status.Usage → IsRefused (map string_bytes words.now) }
-    // What stands after any status: the front of the text that the sink took, but for an audit, and the files, but for a conversion; their promises say what becomes of them.
+    // What stands after any status: the front of the text that the sink took, but for an audit, and the files, but for a conversion and a run; their promises say what becomes of them.
     ensures prefix { IsNoAudit (map string_bytes words.now) → IfSome (O.contents out.old) (λ had. (n : ℕ) × (O.contents out.new ≡ Some (had ++ take n (text_of result.history.items)))) }
-    ensures files { IsNoConversion (map string_bytes words.now) → K.files shelf.new ≡ K.files shelf.old }
+    ensures files { IsNoConversion (map string_bytes words.now) → IsNoRun (map string_bytes words.now) → K.files shelf.new ≡ K.files shelf.old }
     // A status that is decided before the first call leaves no history and prints nothing; one that is decided before the disk is touched leaves the disk.
     ensures silent { IsSilent result.status → (result.history.items ≡ []) × (O.contents out.new ≡ O.contents out.old) }
     ensures early { IsEarly result.status → result.disk ≡ disk }
+    // A status of the shelf's fault prints nothing, also where it comes after the calls.
+    ensures unprinted { result.status ≡ Status.ShelfFault → O.contents out.new ≡ O.contents out.old }
+    // Where no script is run, it comes before the disk is touched.
+    ensures shelf { IsNoRun (map string_bytes words.now) → result.status ≡ Status.ShelfFault → (result.disk ≡ disk) × (result.history.items ≡ []) × (O.contents out.new ≡ O.contents out.old) }
     // A conversion leaves the disk.
     ensures apart { (way : WayValue) (source target : List ℕ) → IsConversion way (map string_bytes words.now) source target → result.disk ≡ disk }
     // The disk keeps its size, and its counts never fall.

@@ -1,5 +1,5 @@
 -- What one call of the store is to a turn.
-use Rattle.std.proofs.Common.{◌≡◌, ◌<◌, ◌≤◌, ◌+◌, ℕ, inl, inr, List, [], ◌∷◌, ◌++◌, length, drop, refl, sym, ap, ◌∙◌, subst, arith, append-nil, append_assoc, eq-eqb, cond, length-append}
+use Rattle.std.proofs.Common.{◌≡◌, ◌<◌, ◌≤◌, ◌+◌, ℕ, inl, inr, Bool, true, false, ◌==◌, List, [], ◌∷◌, ◌++◌, length, drop, refl, sym, ap, ◌∙◌, subst, arith, append-nil, append_assoc, eq-eqb, cond, length-append}
 use Rattle.std.specs.Prelude.{Result, Ok, Err, IfOk, OnErr}
 use Rattle.voice_units.specs.declared.errors.NoMemory.{NoMemory}
 use Rattle.voice_model.specs.declared.calls.Call.{Call}
@@ -8,18 +8,18 @@ use Rattle.voice_model.specs.declared.calls.Entry.{Entry}
 use Rattle.voice_store.specs.Facts.{Adds, AddsLanding, entry_of, landing_at}
 use Rattle.turnstile.specs.Histories.{entries_of}
 use Rattle.turnstile.specs.Turns.{IsOneTurn, Begins}
-use Rattle.turnstile.specs.Passes.{AddsOneTurn, mine, seen}
+use Rattle.turnstile.specs.Passes.{AddsOneTurn, IsAllOf, mine, seen}
 use Rattle.turnstile.specs.declared.parts.Pass.{Pass}
 use Rattle.turnstile.proofs.Views.{entries_other}
 use Rattle.voice_server.specs.declared.born.Born.{Born}
 use Rattle.voice_server.specs.declared.standing.Standing.{Standing}
 use Rattle.voice_server.specs.Served.{AddsEntry}
 
-drop_front : (xs ys : List Entry) → drop (length xs) (xs ++ ys) ≡ ys
+pub drop_front : (xs ys : List Entry) → drop (length xs) (xs ++ ys) ≡ ys
 drop_front [] ys = refl
 drop_front (x ∷ xs) ys = drop_front xs ys
 
-own : (by : ℕ) (e : Entry) → e.caller ≡ by → entries_of by (e ∷ []) ≡ e ∷ []
+pub own : (by : ℕ) (e : Entry) → e.caller ≡ by → entries_of by (e ∷ []) ≡ e ∷ []
 own by e is = ap (λ b. cond b (e ∷ []) []) (eq-eqb e.caller by is)
 
 -- a landing is no caller's
@@ -160,3 +160,36 @@ answered p q by caller ack call old new (Err e) same t adds = tt
 pub unanswered : {D : Type 0} (p q : Pass (Standing D) (Born D)) (by : ℕ) (old new : List Entry) (r : Result Reply NoMemory) → Turned p q by old new → OnErr r (AddsLanding old new) → OnErr r (mine q ≡ mine p)
 unanswered p q by old new (Ok reply) t err = tt
 unanswered p q by old new (Err e) t err = t.gained ∙ ap (λ l. mine p ++ l) (gains_none by old new t.positive err) ∙ append-nil (mine p)
+
+-- ---- all that a caller did
+
+entries_both : (by : ℕ) (xs ys : List Entry) → entries_of by (xs ++ ys) ≡ entries_of by xs ++ entries_of by ys
+entries_both by [] ys = refl
+entries_both by (x ∷ xs) ys = both (x.caller == by) (entries_both by xs ys)
+  where
+    both : (own : Bool) → entries_of by (xs ++ ys) ≡ entries_of by xs ++ entries_of by ys → cond own (x ∷ entries_of by (xs ++ ys)) (entries_of by (xs ++ ys)) ≡ cond own (x ∷ entries_of by xs) (entries_of by xs) ++ entries_of by ys
+    both true is = ap (λ l. x ∷ l) is
+    both false is = is
+
+-- a turn keeps that
+pub all_after : (start held before old new after : List Entry) (caller by : ℕ) (was own : List Entry) → Turns by old new → held ≡ old → before ≡ old → after ≡ new → caller ≡ by → IsAllOf start held caller was → own ≡ was ++ entries_of caller (drop (length before) new) → IsAllOf start after by own
+all_after start held before old new after caller by was own t on at same is (begins, all) gained =
+    let grown : after ≡ start ++ (begins.0 ++ t.added) = same ∙ t.is ∙ ap (λ l. l ++ t.added) (sym on ∙ begins.1) ∙ append_assoc start begins.0 t.added in (
+      (begins.0 ++ t.added, grown),
+      gained
+          ∙ ap (λ l. l ++ entries_of caller (drop (length before) new)) (all ∙ ap (entries_of caller) (ap (drop (length start)) begins.1 ∙ drop_front start begins.0))
+          ∙ ap (λ l. entries_of caller begins.0 ++ entries_of caller l) (ap (drop (length before)) (t.is ∙ ap (λ l. l ++ t.added) (sym at)) ∙ drop_front before t.added)
+          ∙ sym (entries_both caller begins.0 t.added)
+          ∙ ap (entries_of caller) (sym (ap (drop (length start)) grown ∙ drop_front start (begins.0 ++ t.added)))
+          ∙ ap (λ b. entries_of b (drop (length start) after)) is,
+    )
+
+-- ---- a turn that makes one entry, without a landing
+
+pub adds_alone : (by ack : ℕ) (call : Call) (old new : List Entry) (r : Result Reply NoMemory) → IfOk r (λ reply. new ≡ old ++ entry_of by call reply ack ∷ []) → IfOk r (λ reply. Adds by call reply ack old new)
+adds_alone by ack call old new (Ok reply) is = inl is
+adds_alone by ack call old new (Err e) is = tt
+
+pub adds_nothing : (old new : List Entry) (r : Result Reply NoMemory) → OnErr r (new ≡ old) → OnErr r (AddsLanding old new)
+adds_nothing old new (Ok reply) is = tt
+adds_nothing old new (Err e) is = inl is

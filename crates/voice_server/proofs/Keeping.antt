@@ -1,5 +1,5 @@
 -- What a store keeps as it is opened, and over a turn.
-use Rattle.std.proofs.Common.{◌≡◌, ℕ, Bool, List, Some, sym, ap, subst, ◌∙◌, arith}
+use Rattle.std.proofs.Common.{◌≡◌, List, Some, sym, ap, subst, ◌∙◌, arith}
 use Rattle.std.specs.Prelude.{IsTrue}
 use Rattle.voice_outside.specs.Disk.{Told}
 use Rattle.voice_model.specs.State.{State}
@@ -7,7 +7,7 @@ use Rattle.voice_model.specs.Heard.{LegalOn}
 use Rattle.voice_model.specs.Image.{opened_from}
 use Rattle.voice_model.specs.declared.calls.Entry.{Entry}
 use Rattle.voice_store.specs.Facts.{Goes, GoesOn}
-use Rattle.voice_store.specs.Shown.{Shown, Keeps, history_of, tapes_in}
+use Rattle.voice_store.specs.Shown.{Shown, Keeps, history_of, tapes_in, pool_of}
 use Rattle.voice_store.proofs.Histories.{keeps_legal}
 use Rattle.turnstile.specs.Passes.{made_with}
 use Rattle.voice_server.specs.declared.born.Born.{Born}
@@ -47,5 +47,15 @@ module _ {D : Type 0} (told : D → Told) where
         (subst (λ t. LegalOn (told s.origin).honest k.first t history) (ap (λ (b : Born D). b.tapes) same) (subst (λ h. LegalOn (told s.origin).honest k.first (tapes_in s) h) (sym is) (keeps_legal told k.first s k.keeps))),
   )
 
-pub same_origin : {D : Type 0} (old new : Shown D) → new.origin ≡ old.origin → tapes_in new ≡ tapes_in old → origin_of (record { store = new }) ≡ origin_of (record { store = old })
-same_origin old new origin tapes = λ i. record { disk = origin i; tapes = tapes i }
+pub same_origin : {D : Type 0} (old new : Shown D) → new.origin ≡ old.origin → tapes_in new ≡ tapes_in old → pool_of new ≡ pool_of old → origin_of (record { store = new }) ≡ origin_of (record { store = old })
+same_origin old new origin tapes pool = λ i. record { disk = origin i; tapes = tapes i; pool = pool i }
+
+module _ {D : Type 0} (told : D → Told) where
+  -- nothing of the disk changed, nor of the history
+  pub kept_still : (old new : Shown D) → ((first : State) → Keeps told first old → Keeps told first new) → new.disk ≡ old.disk → new.origin ≡ old.origin → IsKept told old → IsKept told new
+  kept_still old new on disk origin was = record {
+    first = was.first;
+    keeps = on was.first was.keeps;
+    opened = subst (λ d. IsTrue (told d).honest → opened_from (told d).bytes ≡ Some was.first) (sym origin) was.opened;
+    goes = subst (λ d. GoesOn (told d) (told new.disk)) (sym origin) (subst (λ d. GoesOn (told old.origin) (told d)) (sym disk) was.goes);
+  }

@@ -1,3 +1,4 @@
 pub mod Adds
+pub mod Feeds
 pub mod Keeping
 pub mod Moving

@@ -1,12 +1,12 @@
 -- What holds of a store between turns.
 --     IsKept told s      all that a store keeps, from the disk that it was opened on
-use Rattle.std.specs.Prelude.{◌≡◌, ◌≤◌, List, Some, IsTrue}
+use Rattle.std.specs.Prelude.{◌≡◌, List, Some, IsTrue}
 use Rattle.voice_outside.specs.Disk.{Told}
 use Rattle.voice_model.specs.State.{State}
 use Rattle.voice_model.specs.Image.{opened_from}
 use Rattle.voice_model.specs.declared.calls.Entry.{Entry}
 use Rattle.voice_store.specs.Facts.{GoesOn}
-use Rattle.voice_store.specs.Shown.{Shown, Keeps, tapes_in}
+use Rattle.voice_store.specs.Shown.{Shown, Keeps, tapes_in, pool_of}
 use Rattle.voice_store.specs.Shown as shown
 use Rattle.voice_server.specs.declared.born.Born.{Born}
 use Rattle.voice_server.specs.declared.standing.Standing.{Standing}
@@ -23,4 +23,4 @@ module _ {D : Type 0} where
   history_of s = shown.history_of s.store
 
   abbrev pub origin_of : Standing D → Born D
-  origin_of s = record { disk = s.store.origin; tapes = tapes_in s.store }
+  origin_of s = record { disk = s.store.origin; tapes = tapes_in s.store; pool = pool_of s.store }

@@ -23,6 +23,7 @@ pub mod Recorded
 pub mod Refusals
 pub mod Refused
 pub mod Results
+pub mod Returned
 pub mod Holding
 pub mod Sending
 pub mod Settled

@@ -1,7 +1,7 @@
 -- What contracts see of a store.
 --     Shown      its disk, the disk as it was opened, and what it keeps besides, which is named in this crate alone
 --     history_of s, tapes_in s, block_of s      its history, its tapes, the length of a block
---     pool_of s      which pool its leases are of
+--     pool_of s, lanes_in s      which pool its leases are of;  how many lanes it has
 --     HasRoomFor n s      the history takes so many entries more without memory
 --     FaultsCover low history high      there are at most so many entries of faults as faults rose, unless their count is at its end
 --     Stands first origin disk inside      the store was opened in this state, and all its history is legal from it and held
@@ -52,6 +52,10 @@ module _ {D : Type 0} where
   -- which pool its leases are of
   abbrev pub pool_of : Shown D → Identity
   pool_of s = s.inside.lanes.frames.keeper.pool
+
+  -- how many lanes it has
+  abbrev pub lanes_in : Shown D → ℕ
+  lanes_in s = s.inside.journal.shape.lanes
 
   -- the history takes so many entries more without memory
   abbrev pub HasRoomFor : ℕ → Shown D → Type 0

@@ -1,8 +1,9 @@
 //! Feed: the next window of a lane's first job, or the job's end.
 
-ghost use Rattle.std.specs.Prelude.{◌≡◌, ◌⊎◌, ◌<◌, ◌≤◌, ◌++◌, ◌∷◌, [], ℕ, None, Some, Ok, true, false, length, IsTrue, IfOk, OnErr, vec_len, vec_capacity, if◌then◌else◌};
+ghost use Rattle.std.specs.Prelude.{◌≡◌, ◌≢◌, ◌⊎◌, ◌<◌, ◌≤◌, ◌++◌, ◌∷◌, [], ℕ, None, Some, Ok, true, false, length, IsTrue, IfOk, OnErr, vec_len, vec_capacity, if◌then◌else◌};
 ghost use Rattle.voice_outside.specs.Counters.{HasRisen};
 ghost use Rattle.voice_model.specs.State.{State};
+ghost use Rattle.voice_model.specs.declared.calls.Why.{Why};
 ghost use Rattle.play_queue.specs.Queued.{lane_of};
 ghost use Rattle.playing.specs.Frames.{HasRead, missing};
 ghost use Rattle.frame_pool.specs.Pool.{spent};
@@ -135,6 +136,7 @@ impl Inside {
         ensures lease { (lease.new ≡ lease.old) ⊎ (lease.new ≡ spent lease.old) }
         ensures back { IfOk result (λ fed. lease.new ≡ (if lease.old.taken then lease.old else spent lease.old)) }
         ensures hinted { lease.old.taken ≡ false → lease.old.hinted ≡ true → IfOk result HasStopped }
+        ensures unrefused { IfOk result (λ fed. (reason : Why) → fed ≢ Fed.Refused reason) }
         ensures cause { IfOk result (λ fed. IsFault (told fed) → HasRisen (D.told disk.old).faults (D.told disk.new).faults) }
         ensures made { HasRead (missing self.old.journal.shape.block self.old.lanes.frames.resident (next_window self.old.journal.shape.block heard (lane_of self.old.lanes.queues lease.old.lane))) (D.told disk.old) (D.told disk.new) }
         ensures samples { IsTrue (D.told disk.old).honest → (first : State) (t0 : ℕ) → Stood first t0 (D.told disk.old) self.old → IfOk result (HasSamples (last_of first self.old) lease.old.lane) }
@@ -185,6 +187,7 @@ impl Inside {
         ensures lease { (lease.new ≡ lease.old) ⊎ (lease.new ≡ spent lease.old) }
         ensures back { IfOk result (λ fed. lease.new ≡ (if lease.old.taken then lease.old else spent lease.old)) }
         ensures hinted { lease.old.taken ≡ false → lease.old.hinted ≡ true → IfOk result HasStopped }
+        ensures unrefused { IfOk result (λ fed. (reason : Why) → fed ≢ Fed.Refused reason) }
         ensures cause { IfOk result (λ fed. IsFault (told fed) → HasRisen (D.told disk.old).faults (D.told disk.new).faults) }
         ensures looks { Looked 4 (D.told disk.old) (D.told disk.new) }
         ensures samples { IsTrue (D.told disk.old).honest → (first : State) (t0 : ℕ) → Stood first t0 (D.told disk.old) self.old → IfOk result (HasSamples (last_of first self.old) lease.old.lane) }
@@ -194,5 +197,23 @@ impl Inside {
         ensures stood { (first : State) (t0 : ℕ) → Stood first t0 (D.told disk.old) self.old → Stood first t0 (D.told disk.new) self.new }
     {
         self.serve_by::<D, Brand>(disk, caller, lease, heard, Blank::new(1))
+    }
+
+    /// Takes the lease of a window back without a Feed, if its lane is one of the store. The window stays out, and the disk is not touched.
+    pub(crate) fn take_back<D: Disk>(&mut self, _disk: &D, lease: &mut Lease)
+        requires stood { (first : State) × (t0 : ℕ) × Stood first t0 (D.told _disk.now) self.old }
+        requires pool { lease.old.pool ≡ self.old.lanes.frames.keeper.pool }
+        ensures lease { (lease.new ≡ lease.old) ⊎ (lease.new ≡ spent lease.old) }
+        ensures back { lease.old.lane < self.old.journal.shape.lanes → lease.new ≡ (if lease.old.taken then lease.old else spent lease.old) }
+        ensures history { self.new.history ≡ self.old.history }
+        ensures tapes { self.new.tapes ≡ self.old.tapes }
+        ensures pool { self.new.lanes.frames.keeper.pool ≡ self.old.lanes.frames.keeper.pool }
+        ensures stood { (first : State) (t0 : ℕ) → Stood first t0 (D.told _disk.now) self.old → Stood first t0 (D.told _disk.now) self.new }
+    {
+        let lane = lease.lane();
+        if lane.0 >= self.journal.shape().lanes {
+            return;
+        }
+        let _is_the_window = self.lanes.bring_back(lane, lease);
     }
 }

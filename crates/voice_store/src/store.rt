@@ -1,6 +1,6 @@
 //! The store.
 
-ghost use Rattle.std.specs.Prelude.{◌≡◌, ◌≤◌, ◌+◌, ◌-◌, ◌⊎◌, ◌++◌, ◌∷◌, ℕ, [], Some, None, true, false, IsTrue, IsOk, IfOk, IfErr, OnOk, OnErr, if◌then◌else◌};
+ghost use Rattle.std.specs.Prelude.{◌≡◌, ◌≢◌, ◌<◌, ◌≤◌, ◌+◌, ◌-◌, ◌⊎◌, ◌++◌, ◌∷◌, ℕ, [], Some, None, true, false, IsTrue, IsOk, IfOk, IfErr, OnOk, OnErr, if◌then◌else◌};
 ghost use Rattle.std.specs.Arc.{arc_value};
 ghost use Rattle.voice_outside.specs.Counters.{HasRisen};
 ghost use Rattle.voice_outside.specs.Disk.{MakesAtMost, Now};
@@ -10,11 +10,12 @@ ghost use Rattle.voice_journal.specs.Formatted.{IsFormatted, SameButHeads};
 ghost use Rattle.voice_model.specs.State.{State, formatted};
 ghost use Rattle.voice_model.specs.Room.{free};
 ghost use Rattle.voice_model.specs.Valid.{InRange};
+ghost use Rattle.voice_model.specs.declared.calls.Why.{Why};
 ghost use Rattle.voice_model.specs.Image.{Reading, reading, opened_from};
 ghost use Rattle.frame_pool.specs.Pool.{spent};
 ghost use Rattle.lane_calls.specs.Answers.{IsHandedOut, HasStopped};
 ghost use Rattle.voice_store.specs.Feeding.{told, HasSamples};
-ghost use Rattle.voice_store.specs.Shown.{Keeps, HasRoomFor, history_of, tapes_in, pool_of, state_of};
+ghost use Rattle.voice_store.specs.Shown.{Keeps, HasRoomFor, history_of, tapes_in, pool_of, lanes_in, state_of};
 ghost use Rattle.voice_store.specs.Stood.{ShowsState};
 ghost use Rattle.listening.specs.Looks.{OnlyLooked, Looked};
 ghost use Rattle.voice_store.specs.Facts.{entry_of, Adds, AddsLanding, Goes, GoesOn, IsFault, TakesAreIn, HasRopes, hears, only_tells, most_reads};
@@ -170,6 +171,8 @@ impl<D: Disk> Store<D> {
         ensures fresh { IfOk result (IsHandedOut (pool_of self.old) lease.old.lane) }
         // A lease whose player saw the hint is that of a job that is stopped.
         ensures hinted { lease.old.taken ≡ false → lease.old.hinted ≡ true → IfOk result HasStopped }
+        // A window that comes back is not refused.
+        ensures unrefused { IfOk result (λ fed. (reason : Why) → fed ≢ Fed.Refused reason) }
         ensures lease { (lease.new ≡ lease.old) ⊎ (lease.new ≡ spent lease.old) }
         ensures back { IfOk result (λ fed. lease.new ≡ (if lease.old.taken then lease.old else spent lease.old)) }
         ensures cause { IfOk result (λ fed. IsFault (told fed) → HasRisen (D.told self.old.disk).faults (D.told self.new.disk).faults) }
@@ -182,6 +185,19 @@ impl<D: Disk> Store<D> {
         self.inside.serve(&mut self.disk, caller, lease, heard)
     }
 
+    /// Takes the lease of a window back without a Feed, so that its player hears it no longer. The window stays out, and nothing else changes; a lease that was taken back before stays as it is.
+    pub fn take_back(&mut self, lease: &mut Lease)
+        requires pool { lease.old.pool ≡ pool_of self.old }
+        ensures lease { (lease.new ≡ lease.old) ⊎ (lease.new ≡ spent lease.old) }
+        // That of a lane of the store is back.
+        ensures back { lease.old.lane < lanes_in self.old → lease.new ≡ (if lease.old.taken then lease.old else spent lease.old) }
+        ensures history { history_of self.new ≡ history_of self.old }
+        ensures state { (first : State) → Keeps D.told first self.old → Keeps D.told first self.new }
+        ensures rest { (self.new.disk ≡ self.old.disk) × (self.new.origin ≡ self.old.origin) × (tapes_in self.new ≡ tapes_in self.old) × (pool_of self.new ≡ pool_of self.old) }
+    {
+        self.inside.take_back(&self.disk, lease);
+    }
+
     /// The calls so far, in order.
     pub fn history(&self) -> &[Entry]
         ensures { result.now ≡ history_of self.now }
@@ -191,7 +207,7 @@ impl<D: Disk> Store<D> {
 
     /// How many lanes there are.
     pub fn lanes(&self) -> u16
-        ensures { result ≡ self.now.inside.journal.shape.lanes }
+        ensures { result ≡ lanes_in self.now }
     {
         self.inside.journal.shape().lanes
     }

@@ -1,4 +1,3 @@
-use Rattle.std.proofs.Common.{◌≡◌}
 use Rattle.lane_calls.specs.Answers.{IsHandedOut}
 use Rattle.voice_model.specs.State.{State}
 use Rattle.voice_store.specs.Shown.{Keeps, pool_of}

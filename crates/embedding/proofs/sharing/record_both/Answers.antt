@@ -1,4 +1,4 @@
-use Rattle.std.proofs.Common.{◌≡◌, ◌∙◌, [], refl, sym, ap, subst, length, append-nil}
+use Rattle.std.proofs.Common.{◌≡◌, ◌∙◌, [], sym, ap, subst, length, append-nil}
 use Rattle.turnstile.specs.Passes.{AreOf}
 use Rattle.embedding.proofs.Crossing.{slice_back}
 use Rattle.voice_store.specs.Shown.{history_of}

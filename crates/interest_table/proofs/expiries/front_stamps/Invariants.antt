@@ -1,9 +1,10 @@
-use Rattle.std.proofs.Common.{◌≡◌, ◌≤◌, ◌-◌, map, take}
+use Rattle.std.proofs.Common.{◌≡◌, ◌≤◌, ◌-◌, ◌++◌, length, drop}
+use Rattle.interest_table.specs.Inside.{due_front}
 use Rattle.interest_table.proofs.expiries.front_stamps.Given as goal
 
--- the stamps so far
-abbrev pub invariant-loop-place : goal.invariant-loop-place
-invariant-loop-place l = record { within : l.place ≤ l.count; items : l.stamps.items ≡ map (λ e. e.stamp) (take l.place l.expiries.items) }
+-- the stamps so far, and those that are left
+abbrev pub invariant-loop-run : goal.invariant-loop-run
+invariant-loop-run l = record { within : l.place ≤ length l.expiries.items; items : l.stamps.items ++ due_front l.most (drop l.place l.expiries.items) ≡ due_front l.most l.expiries.items }
 
-abbrev pub decreases-loop-place : goal.decreases-loop-place
-decreases-loop-place l = l.count - l.place
+abbrev pub decreases-loop-run : goal.decreases-loop-run
+decreases-loop-run l = length l.expiries.items - l.place

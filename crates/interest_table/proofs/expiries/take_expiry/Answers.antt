@@ -1,11 +1,11 @@
-use Rattle.std.proofs.Common.{nat_lt, rules, ◌^◌}
-use Rattle.std.proofs.lemmas.List.Sorted.{IsPartitionPoint-from_clause}
+use Rattle.std.proofs.Common.{nat_lt, rules, ◌≡◌, ◌^◌}
+use Rattle.std.proofs.lemmas.Fn.{always_returns_same}
 use Rattle.interest_table.specs.Inside.{place_of}
 use Rattle.interest_table.proofs.Dated.{one_taken, placed_before}
 use Rattle.interest_table.proofs.expiries.take_expiry.Goals as goal
 
 pub returns-clause-items : goal.returns-clause-items
 returns-clause-items c =
-    one_taken c.args.gone c.args.expiries.now.items c.remove.new.self.items c.partition_point-place.result c.remove.ensures.items
-    (λ h. IsPartitionPoint-from_clause (λ y. nat_lt (place_of y) (place_of c.args.gone)) c.args.expiries.now.items c.partition_point-place.result c.partition_point-place.ensures.partitioned
-    (placed_before (place_of c.args.gone) 0 (2 ^ 128) c.args.expiries.now.items h.rising) (λ a r f' called. search rules))
+    let here = place_of c.args.gone in
+    one_taken c.args.gone c.args.expiries.now.items c.remove_at_point.new.self.items
+    (λ h. c.remove_at_point.ensures.items (λ y. nat_lt (place_of y) here) (always_returns_same _ (λ a r. r ≡ nat_lt (place_of a.0.now) here) _ (λ a r f' called. search rules)) (placed_before here 0 (2 ^ 128) c.args.expiries.now.items h.rising))

@@ -1,6 +1,6 @@
 use Rattle.std.proofs.Common.{◌≡◌, true, rules}
 use Rattle.voice_model.specs.Text.{text_of}
-use Rattle.voice_main.proofs.Verdicts.{nothing_more}
+use Rattle.voice_main.proofs.Written.{nothing_more}
 use Rattle.voice_main.proofs.census.counted.Goals as goal
 
 pub returns-clause-whole : goal.returns-clause-whole

@@ -1,53 +1,54 @@
-use Rattle.std.proofs.Common.{◌∙◌, ℕ, List, sym, subst, inr, refl}
-use Rattle.voice_model.specs.Follows.{bound, bound_rope}
-use Rattle.voice_store.specs.Facts.{TakesAreIn}
-use Rattle.script_lang.specs.Errands.{SameValues}
+use Rattle.std.proofs.Common.{◌≡◌, ◌∙◌, Some, sym, refl, inr}
 use Rattle.voice_store.specs.Shown.{history_of}
-use Rattle.voice_main.specs.Ordered.{LineBound}
-use Rattle.callers.proofs.Built.{asked_well, asks_something}
-use Rattle.callers.proofs.Lined.{then_bound}
-use Rattle.voice_main.proofs.Added.{line_ran, line_bound, no_landing}
+use Rattle.script_lang.specs.Parts.{served}
+use Rattle.voice_main.specs.Done.{to_serve}
+use Rattle.voice_main.proofs.Added.{done_alone, done_served, began_serving, to_serve_is, made_grown, grown_on}
+use Rattle.voice_main.proofs.LineGiven.{call_quietly, line_gave_nothing, line_gave, gave_from, rests_behind}
+use Rattle.voice_main.proofs.Going.{in_error}
 use Rattle.voice_main.proofs.script_lines.run_line.Goals as goal
 
-pub unreachable-requires : goal.unreachable-requires
-unreachable-requires g c =
-    let asks = c.in_ok-call.ensures.value c.args.variables.now (λ name. refl) in
-    asks_something c.args.tapes.now c.args.line.now.verb c.args.variables.now c.requires.verb (sym asks ∙ c.in_default.is)
+pub returns-in_default-clause-ok : goal.returns-in_default-clause-ok
+returns-in_default-clause-ok g c = λ stand same.
+    done_alone c.args.tapes.now c.args.line.now stand c.call_line.new.variables c.in_ok-made.made (history_of c.args.store.now) (history_of c.call_line.new.store) c.args.heard.now.items c.args.heard.now.items
+    (c.in_ok-made.ensures.ok stand same) (sym c.lane_behind.ensures ∙ c.in_default.is) refl
 
-pub apply-requires-clause-takes : goal.apply-requires-clause-takes
-apply-requires-clause-takes g c κs within =
-    let asks = c.in_ok-call.ensures.value c.args.variables.now (λ name. refl) in
-    let well = asked_well c.args.tapes.now c.args.line.now.verb c.args.variables.now c.in-Some.call c.requires.verb (sym c.in-Some.is ∙ asks) in
-    let P : List (List ℕ) → Type 0 = λ tapes. TakesAreIn tapes c.in-Some.call in
-    subst P (sym c.requires.tapes) (well.takes c.requires.tape)
+pub returns-in_default-clause-bytes : goal.returns-in_default-clause-bytes
+returns-in_default-clause-bytes g c = λ honest first opened keeps rests fed.
+    line_gave_nothing first c.args.tapes.now c.args.line.now.caller (history_of c.args.store.now) (history_of c.call_line.new.store) c.args.heard.now.items c.args.heard.now.items
+    (call_quietly c.args.tapes.now c.args.line.now c.args.variables.now c.call_line.new.variables c.in_ok-made.made (history_of c.args.store.now) (history_of c.call_line.new.store) (c.in_ok-made.ensures.ok c.args.variables.now (λ name. refl))) refl rests
 
-pub apply-requires-clause-built : goal.apply-requires-clause-built
-apply-requires-clause-built g c κs within =
-    let asks = c.in_ok-call.ensures.value c.args.variables.now (λ name. refl) in
-    (asked_well c.args.tapes.now c.args.line.now.verb c.args.variables.now c.in-Some.call c.requires.verb (sym c.in-Some.is ∙ asks)).built
-
-pub apply-requires-clause-ropes : goal.apply-requires-clause-ropes
-apply-requires-clause-ropes g c κs within =
-    let asks = c.in_ok-call.ensures.value c.args.variables.now (λ name. refl) in
-    (asked_well c.args.tapes.now c.args.line.now.verb c.args.variables.now c.in-Some.call c.requires.verb (sym c.in-Some.is ∙ asks)).ropes c.requires.ropes
-
-pub apply-requires-clause-range : goal.apply-requires-clause-range
-apply-requires-clause-range g c κs within =
-    let asks = c.in_ok-call.ensures.value c.args.variables.now (λ name. refl) in
-    (asked_well c.args.tapes.now c.args.line.now.verb c.args.variables.now c.in-Some.call c.requires.verb (sym c.in-Some.is ∙ asks)).range c.requires.range
-
-pub returns-clause-ran : goal.returns-clause-ran
-returns-clause-ran g c = λ stand same.
-    let asks = sym c.in-Some.is ∙ c.in_ok-call.ensures.value stand same in
-    let well = asked_well c.args.tapes.now c.args.line.now.verb stand c.in-Some.call c.requires.verb asks in
-    inr (line_ran c.args.tapes.now c.args.line.now stand c.in-Some.call c.in_ok-reply.reply _ (history_of c.args.store.now) (history_of c.apply.new.self) c.requires.verb (no_landing c.in-Some.call well.built) asks c.in_ok-reply.ensures.entry)
+pub returns-in_err-serve_line-clause-began : goal.returns-in_err-serve_line-clause-began
+returns-in_err-serve_line-clause-began g c = λ stand same.
+    let is : to_serve (served c.args.line.now.verb) c.in_ok-made.made ≡ Some c.in-Some.lane = sym c.lane_behind.ensures ∙ c.in-Some.is in
+    in_error c.from_residual-in_err-serve_line.result
+    (inr (began_serving c.args.tapes.now c.args.line.now stand c.call_line.new.variables c.in_ok-made.made c.in-Some.lane (history_of c.args.store.now) (history_of c.call_line.new.store) (history_of c.serve_line.new.store) (c.in_ok-made.ensures.ok stand same) is c.in_err-serve_line.ensures.err))
 
 pub returns-clause-ok : goal.returns-clause-ok
 returns-clause-ok g c = λ stand same.
-    let asks = sym c.in-Some.is ∙ c.in_ok-call.ensures.value stand same in
-    let well = asked_well c.args.tapes.now c.args.line.now.verb stand c.in-Some.call c.requires.verb asks in
-    let P : Type 0 = SameValues c.bind.new.self (bound c.args.line.now.bind (bound_rope c.in_ok-reply.reply) stand) in
-    let Q : Type 0 = LineBound c.args.tapes.now c.args.line.now stand c.bind.new.self (history_of c.args.store.now) (history_of c.apply.new.self) in
-    then_bound c.bind.result P Q
-    (λ set. line_bound c.args.tapes.now c.args.line.now stand c.bind.new.self c.in-Some.call c.in_ok-reply.reply _ (history_of c.args.store.now) (history_of c.apply.new.self) c.requires.verb (no_landing c.in-Some.call well.built) asks c.in_ok-reply.ensures.entry set)
-    (c.bind.ensures.ok stand same)
+    let is : to_serve (served c.args.line.now.verb) c.in_ok-made.made ≡ Some c.in-Some.lane = sym c.lane_behind.ensures ∙ c.in-Some.is in
+    done_served c.args.tapes.now c.args.line.now stand c.call_line.new.variables c.in_ok-made.made c.in-Some.lane (history_of c.args.store.now) (history_of c.call_line.new.store) (history_of c.serve_line.new.store) c.args.heard.now.items c.serve_line.new.heard.items
+    (c.in_ok-made.ensures.ok stand same) is c.in_ok-serve_line.ensures.ok c.requires.bind
+
+pub returns-clause-bytes : goal.returns-clause-bytes
+returns-clause-bytes g c = λ honest first opened keeps rests fed.
+    let is : to_serve (served c.args.line.now.verb) c.in_ok-made.made ≡ Some c.in-Some.lane = sym c.lane_behind.ensures ∙ c.in-Some.is in
+    let quiet = call_quietly c.args.tapes.now c.args.line.now c.args.variables.now c.call_line.new.variables c.in_ok-made.made (history_of c.args.store.now) (history_of c.call_line.new.store) (c.in_ok-made.ensures.ok c.args.variables.now (λ name. refl)) in
+    let gave = gave_from g.D.Disk.told first c.args.line.now.caller c.in-Some.lane c.call_line.new.store c.args.store.now.origin c.args.tapes.now (history_of c.serve_line.new.store) c.args.heard.now.items c.serve_line.new.heard.items
+    c.in_ok-made.ensures.origin (c.in_ok-made.ensures.tapes_stay ∙ c.requires.tapes) c.in_ok-serve_line.ensures.bytes honest opened (c.in_ok-made.ensures.stands first keeps)
+    (fed c.in-Some.lane (to_serve_is (served c.args.line.now.verb) c.in_ok-made.made c.in-Some.lane is))
+    (rests_behind first c.args.tapes.now (history_of c.args.store.now) (history_of c.call_line.new.store) quiet rests c.in-Some.lane) in
+    line_gave first c.args.tapes.now c.args.line.now.caller c.in-Some.lane (history_of c.args.store.now) (history_of c.call_line.new.store) (history_of c.serve_line.new.store) c.args.heard.now.items c.serve_line.new.heard.items quiet gave rests
+
+pub returns-in_default-clause-grown : goal.returns-in_default-clause-grown
+returns-in_default-clause-grown g c = made_grown c.args.tapes.now c.args.line.now c.args.variables.now c.call_line.new.variables c.in_ok-made.made (history_of c.args.store.now) (history_of c.call_line.new.store) (c.in_ok-made.ensures.ok c.args.variables.now (λ name. refl))
+
+pub returns-clause-grown : goal.returns-clause-grown
+returns-clause-grown g c =
+    grown_on (history_of c.args.store.now) (history_of c.call_line.new.store) (history_of c.serve_line.new.store)
+    (made_grown c.args.tapes.now c.args.line.now c.args.variables.now c.call_line.new.variables c.in_ok-made.made (history_of c.args.store.now) (history_of c.call_line.new.store) (c.in_ok-made.ensures.ok c.args.variables.now (λ name. refl))) c.in_ok-serve_line.ensures.ok.grown
+
+pub returns-in_err-serve_line-clause-stands : goal.returns-in_err-serve_line-clause-stands
+returns-in_err-serve_line-clause-stands g c = λ first h. c.in_err-serve_line.ensures.stands first (c.in_ok-made.ensures.stands first h)
+
+pub returns-clause-stands : goal.returns-clause-stands
+returns-clause-stands g c = λ first h. c.in_ok-serve_line.ensures.stands first (c.in_ok-made.ensures.stands first h)

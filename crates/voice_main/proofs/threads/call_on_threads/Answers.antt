@@ -13,4 +13,4 @@ returns-clause-so_far g c =
 
 pub returns-clause-finished : goal.returns-clause-finished
 returns-clause-finished g c = λ done.
-    made_from g.D.Disk.told c.in-Ok-open.store.origin c.args.disk c.share.result.disk c.deref.result.now (arc_value c.args.scripted.now.tapes) c.args.scripted.now.script c.share.result.history.items c.in-Ok-open.ensures.ok.0 c.deref.ensures (c.share.ensures.finished done)
+    made_from g.D.Disk.told c.in-Ok-open.store.origin c.args.disk c.share.result.disk c.deref.result.now (arc_value c.args.scripted.now.tapes) c.args.scripted.now.script c.share.result.heard.items c.share.result.history.items c.in-Ok-open.ensures.ok.0 c.deref.ensures (c.share.ensures.finished done)

@@ -35,4 +35,4 @@ returns-clause-refused g c =
     (promised_conversion asked.way asked.source asked.target old new c.convert-status.result c.new.result.items c.convert-status.ensures.comes c.convert-status.ensures.elsewhere c.convert-status.ensures.unset c.new.ensures.items refl (record { bytes = refl; calls = refl; faults = refl })))
 
 pub returns-clause-files : goal.returns-clause-files
-returns-clause-files g c = λ none. absurd (none c.in-Some.asked.way c.in-Some.asked.source c.in-Some.asked.target c.in-Some.ensures)
+returns-clause-files g c = λ none _. absurd (none c.in-Some.asked.way c.in-Some.asked.source c.in-Some.asked.target c.in-Some.ensures)

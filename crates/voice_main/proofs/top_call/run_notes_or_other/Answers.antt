@@ -26,3 +26,6 @@ returns-clause-refused g c =
     let old : Outside = outside (g.K.Shelf.files c.args.shelf.now) (g.K.Shelf.faults c.args.shelf.now) (g.O.Sink.contents c.args.out.now) (g.O.Sink.faults c.args.out.now) (g.O.Sink.empty_takes c.args.out.now) (g.D.Disk.told c.args.disk) in
     let new : Outside = outside (g.K.Shelf.files c.census.new.shelf) (g.K.Shelf.faults c.census.new.shelf) (g.O.Sink.contents c.census.new.out) (g.O.Sink.faults c.census.new.out) (g.O.Sink.empty_takes c.census.new.out) (g.D.Disk.told c.census.result.disk) in
     refused_of words old new c.census.result.status c.census.result.history.items (notes_comes words c.in-Some.index old new c.census.result.status c.census.result.history.items c.in-Some.ensures c.census.ensures.promise)
+
+pub returns-clause-unprinted : goal.returns-clause-unprinted
+returns-clause-unprinted g c = λ is. (c.census.ensures.shelf is).2

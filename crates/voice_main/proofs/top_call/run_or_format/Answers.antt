@@ -5,7 +5,7 @@ use Rattle.voice_main.specs.declared.status.Status.TheVariants.{NoMemory}
 use Rattle.voice_main.specs.Words.{Command}
 use Rattle.voice_main.specs.Outside.{Outside, outside}
 use Rattle.voice_main.specs.FormatPromise.{Formats, FormatStatus}
-use Rattle.voice_main.proofs.Said.{refused_by, run_only, format_only, format_comes, no_memory_done}
+use Rattle.voice_main.proofs.Said.{refused_by, run_only, format_only, format_comes, format_no_shelf, no_memory_done}
 use Rattle.voice_main.proofs.top_call.run_or_format.Goals as goal
 
 pub returns-in_default-format_numbers-clause-comes : goal.returns-in_default-format_numbers-clause-comes
@@ -72,3 +72,13 @@ returns-clause-promise g c =
     let old : Outside = outside (g.K.Shelf.files c.args.shelf.now) (g.K.Shelf.faults c.args.shelf.now) (g.O.Sink.contents c.args.out.now) (g.O.Sink.faults c.args.out.now) (g.O.Sink.empty_takes c.args.out.now) (g.D.Disk.told c.args.disk) in
     let new : Outside = outside (g.K.Shelf.files c.run_script.new.shelf) (g.K.Shelf.faults c.run_script.new.shelf) (g.O.Sink.contents c.run_script.new.out) (g.O.Sink.faults c.run_script.new.out) (g.O.Sink.empty_takes c.run_script.new.out) (g.D.Disk.told c.run_script.result.disk) in
     run_only c.in-Some.asked.threads words c.in-Some.asked.name old new c.run_script.result.status c.run_script.result.history.items c.in-Some.ensures c.run_script.ensures.promise
+
+pub returns-in_default-clause-shelf : goal.returns-in_default-clause-shelf
+returns-in_default-clause-shelf g c =
+    λ none is. absurd (format_no_shelf c.in-Some-assigned.numbers (g.D.Disk.told c.args.disk) (g.D.Disk.told c.format-status.result.1) c.format-status.result.0 c.format-status.ensures.status is)
+
+pub returns-clause-files : goal.returns-clause-files
+returns-clause-files g c = λ none. absurd (none c.in-Some.asked.threads c.in-Some.asked.name c.in-Some.ensures)
+
+pub returns-clause-shelf : goal.returns-clause-shelf
+returns-clause-shelf g c = λ none is. absurd (none c.in-Some.asked.threads c.in-Some.asked.name c.in-Some.ensures)

@@ -13,5 +13,5 @@ invariant_of-self c =
     let h : LeaseView = lease_view c.in-Some.seat.me.0 in
     let j = c.join.ensures in
     let f = c.free_lane.ensures in
-    let joined : KeeperIs w c.join.new.seat = lane_state_is w c.self.inside.seat c.join.new.seat c.self.invariant j.seat.0 j.seat.1 k.latest h.lane _ j.view tt in
-    lane_state_is w c.join.new.seat c.free_lane.new.seat joined f.seat.0 f.seat.1 _ _ _ f.view tt
+    let joined : KeeperIs w c.join.new.seat = lane_state_is w c.self.inside.seat c.join.new.seat c.self.invariant.0 j.seat.0 j.seat.1 k.latest h.lane _ j.view tt in
+    (lane_state_is w c.join.new.seat c.free_lane.new.seat joined f.seat.0 f.seat.1 _ _ _ f.view tt, c.self.invariant.1)

@@ -1,9 +1,9 @@
-use Rattle.std.proofs.Common.{◌∙◌, ◌+◌, ◌-◌, ◌++◌, length, map, drop, ap, sym, arith}
+use Rattle.std.proofs.Common.{◌∙◌, ◌+◌, ◌-◌, ◌++◌, length, map, drop, ap, arith}
 use Rattle.std.specs.Prelude.{nat_eq}
 use Rattle.indexmap.specs.IndexMap.{get}
 use Rattle.voice_model.specs.Changes.{is_unlisted, unlisted_keys}
 use Rattle.interest_table.specs.Inside.{kept, row_in, first_keys}
-use Rattle.interest_table.proofs.Keys.{kept_run, run_first, run_within, drop_all, none_left}
+use Rattle.interest_table.proofs.Keys.{run_taken, run_within, drop_all, none_left, none_fit}
 use Rattle.interest_table.proofs.Census.{listed_kept, listed_alone}
 use Rattle.interest_table.proofs.listing.Listing.absent_keys.Goals as goal
 
@@ -21,11 +21,21 @@ loop-run-preserved c =
     let run = c.in-Some.run'.now in
     let all = listed_kept at c.self.inside.order.items ls c.self.invariant.apart (λ s k. (c.self.invariant.listing.stands s k).0) in
     record {
-      keys = c.in_ok-push_absent.ensures.keys (kept_run at ls run c.loop-run.place all c.in-Some.ensures.values) (map (kept at) (drop (c.loop-run.place + length run) ls))
-          ∙ ap (λ l. c.loop-run.keys.items ++ first_keys (is_unlisted c.args.named.now.keys) (65535 - length c.loop-run.keys.items) l) (sym (run_first at ls run c.loop-run.place c.in-Some.ensures.values)) ∙ c.loop-run.invariant.keys;
+      keys = run_taken (is_unlisted c.args.named.now.keys) at ls run c.loop-run.place c.loop-run.keys.items c.push_absent.new.keys.items _ all c.in-Some.ensures.values c.in_ok-push_absent.ensures.keys c.loop-run.invariant.keys;
       most = c.in_ok-push_absent.ensures.most;
       within = run_within ls run (drop (c.loop-run.place + length run) ls) c.loop-run.place c.loop-run.invariant.within c.in-Some.ensures.values;
     }
+
+pub returns-then-len-ge65535 : goal.returns-then-len-ge65535
+returns-then-len-ge65535 c =
+    let at = get nat_eq c.self.inside.rows in
+    let ls = c.self.inside.listed.items in
+    let run = c.in-Some.run'.now in
+    let all = listed_kept at c.self.inside.order.items ls c.self.invariant.apart (λ s k. (c.self.invariant.listing.stands s k).0) in
+    none_fit (is_unlisted c.args.named.now.keys) (65535 - length c.push_absent.new.keys.items) (map (kept at) (drop (c.loop-run.place + length run) ls)) c.push_absent.new.keys.items _ (omega arith)
+    (run_taken (is_unlisted c.args.named.now.keys) at ls run c.loop-run.place c.loop-run.keys.items c.push_absent.new.keys.items _ all c.in-Some.ensures.values c.in_ok-push_absent.ensures.keys c.loop-run.invariant.keys)
+    ∙ listed_alone c.args.named.now.keys at c.self.inside.order.items ls c.self.invariant.apart
+    ∙ ap (λ l. unlisted_keys (map row_in l.entries) c.args.named.now.keys) c.self.view_is
 
 pub returns : goal.returns
 returns c =

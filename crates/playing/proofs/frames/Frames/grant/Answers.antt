@@ -19,7 +19,7 @@ grant-requires-clause-parts c =
 pub returns-clause-lease : goal.returns-clause-lease
 returns-clause-lease c =
     let inside : FramesState = record { keeper = c.self.inside.keeper; resident = c.self.inside.resident.items } in
-    lease_of c.args.self.now inside c.args.lane c.args.block c.args.window.now c.in_ok-parts.parts.items c.deref.result.now c.in_ok-lease.lease c.self.view_is c.requires.some c.requires.block c.requires.stretches c.in_ok-parts.ensures c.deref.ensures.value c.in_ok-lease.ensures.lease
+    lease_of c.args.self.now inside c.args.lane c.args.block c.args.window.now c.in_ok-parts.parts.items c.deref.result.now c.in_ok-lease.lease c.self.view_is c.self.invariant.whole c.requires.some c.requires.block c.requires.stretches c.in_ok-parts.ensures c.deref.ensures.value c.in_ok-lease.ensures.lease
 
 pub returns-clause-stage : goal.returns-clause-stage
 returns-clause-stage c = is_out c.args.block c.args.self.now.resident c.args.window.now c.in_ok-parts.parts.items c.deref.result.now _ c.in_ok-parts.ensures c.deref.ensures.value c.in_ok-lease.ensures.stage

@@ -1,10 +1,10 @@
-use Rattle.std.proofs.Common.{◌∙◌, ◌+◌, length, ap, sym, arith}
+use Rattle.std.proofs.Common.{refl, ◌∙◌, ◌+◌, length, ap, sym, subst, arith}
 use denote.Exit.{no}
 use denote.Param.Send.{param_send, arg_send}
 use Rattle.voice_store.specs.Shown.{history_of}
 use Rattle.voice_server.proofs.Moving.{standing_send}
 use Rattle.voice_server.proofs.Keeping.{kept_on, legal_from, same_origin}
-use Rattle.voice_server.proofs.Adds.{turn_is, bounds, begins_turn, turned, answered, unanswered}
+use Rattle.voice_server.proofs.Adds.{turn_is, bounds, begins_turn, turned, answered, unanswered, turns, Turns, all_after}
 use Rattle.voice_server.proofs.server.Hall+Standing+D.call.Goals as goal
 
 pub enter-store-requires-send-T : goal.enter-store-requires-send-T
@@ -26,7 +26,7 @@ leave-requires-clause-value g c κs within =
     let old = c.enter-store.result.store in
     let new = c.apply-reply.new.self in
     let a = c.apply-reply.ensures in
-    (same_origin old new a.origin a.tapes ∙ was.0, kept_on g.D.Disk.told old new was.1 a.state a.goes a.origin)
+    (same_origin old new a.origin a.tapes a.pool ∙ was.0, kept_on g.D.Disk.told old new was.1 a.state a.goes a.origin)
 
 pub leave-requires-clause-turn : goal.leave-requires-clause-turn
 leave-requires-clause-turn g c κs within =
@@ -42,7 +42,7 @@ returns-clause-legal g c =
     let old = c.enter-store.result.store in
     let new = c.apply-reply.new.self in
     let a = c.apply-reply.ensures in
-    legal_from g.D.Disk.told c.args.self.now new _ (kept_on g.D.Disk.told old new was.1 a.state a.goes a.origin) (same_origin old new a.origin a.tapes ∙ was.0) c.leave.ensures.seen
+    legal_from g.D.Disk.told c.args.self.now new _ (kept_on g.D.Disk.told old new was.1 a.state a.goes a.origin) (same_origin old new a.origin a.tapes a.pool ∙ was.0) c.leave.ensures.seen
 
 pub returns-clause-ok : goal.returns-clause-ok
 returns-clause-ok g c =
@@ -58,3 +58,12 @@ returns-clause-err g c =
 
 pub apply-reply-requires-clause-caller_most : goal.apply-reply-requires-clause-caller_most
 apply-reply-requires-clause-caller_most g c κs within = let few = c.enter-store.ensures.of.few in omega (arith, c.caller.ensures)
+
+pub returns-clause-all : goal.returns-clause-all
+returns-clause-all g c =
+    let e = c.enter-store.ensures in
+    let old = history_of c.enter-store.result.store in
+    let new = history_of c.apply-reply.new.self in
+    let r = c.apply-reply.result in
+    let a = c.apply-reply.ensures in
+    all_after _ _ _ old new _ c.enter-store.new.pass.caller c.leave.new.pass.caller _ _ (subst (λ b. Turns b old new) (c.caller.ensures ∙ sym c.leave.ensures.caller) (turns c.caller.result _ c.args.call old new r a.entry a.err)) refl e.seen.0 c.leave.ensures.seen (sym c.leave.ensures.caller) e.all c.leave.ensures.mine

@@ -72,6 +72,21 @@ returns-clause-back g c =
     (λ reason e. no_reason reason (refusal last (tapes_of s) call) free (subst (λ (x : Fed). IsServed h.2.fill standing.0 h.2.takings h.2.b last (tapes_of s) call s.made c.serve.new.parts c.serve.new.lanes x) e is))
     c.in_ok-fed.ensures.lease
 
+pub returns-clause-unrefused : goal.returns-clause-unrefused
+returns-clause-unrefused g c = λ reason e.
+    let h = c.requires.stood in
+    let s = c.args.self.now in
+    let old = g.D.Disk.told c.args.disk.now in
+    let last = last_of h.0 s in
+    let call = calls.Feed c.lane-lane.result (Some c.args.heard) in
+    let standing = stood_stands h.0 h.1 old s h.2 in
+    let known = known_at h.0 h.1 old s h.2 c.shape-shape.result c.lane-lane.result c.shape-shape.ensures (subst (λ m. m < c.shape-shape.result.lanes) c.lane.view_is c.if-lane-shape.false) in
+    let out = c.if-not-is_out.ensures refl in
+    let within : c.args.heard ≤ c.len.result = subst (λ n. c.args.heard ≤ n) (sym c.len.ensures) c.requires.most in
+    let free = serves_free h.2.fill s.lanes s.made last (tapes_of s) c.lane-lane.result c.args.heard c.len.result h.2.playing.shows known out.0 out.1 within in
+    let is = c.in_ok-fed.ensures.served h.2.fill standing.0 h.2.takings s.made h.2.b last (tapes_of s) standing.1 standing.2 in
+    no_reason reason (refusal last (tapes_of s) call) free (subst (λ (x : Fed). IsServed h.2.fill standing.0 h.2.takings h.2.b last (tapes_of s) call s.made c.serve.new.parts c.serve.new.lanes x) e is)
+
 pub returns-clause-samples : goal.returns-clause-samples
 returns-clause-samples g c = λ honest first t0 stood.
     let s = c.args.self.now in

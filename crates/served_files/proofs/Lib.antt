@@ -1,0 +1,5 @@
+pub mod Alone
+pub mod Bytes
+pub mod Names
+pub mod Servings
+pub mod SoFar

@@ -1,0 +1,5 @@
+pub mod Places
+pub mod Others
+pub mod Served
+pub mod TakenIn
+pub mod Whole

@@ -1,0 +1,9 @@
+pub mod Pieces
+pub mod Between
+pub mod Known
+pub mod Turned
+pub mod Ends
+pub mod Steps
+pub mod Gains
+pub mod ByOne
+pub mod OneSteps
