@@ -70,14 +70,6 @@ awk -v n="$last" 'BEGIN { for (i = 1; i <= n; i++) print "1 length " i }' >"$wor
 expect 'all ropes are there' sh -c "cd '$work' && [ \"\$('$top/voice' run all.vs | grep -c 'number')\" = '$last' ]"
 
 # Killed at thirty moments while eight callers record, keep, play, forget and sweep: each time the disk opens, an audit tells of no damage, the number never falls, and what is kept is heard as it was recorded.
-awk 'BEGIN { for (i = 0; i < 40; i++) for (c = 1; c <= 8; c++) {
-    print c " a = record hello.ul"
-    print c " retain held k" c "." i % 3 " a -"
-    print c " play " c - 1 " a 0 20 out" c
-    print c " advance " i * 10
-    print c " sweep 4"
-    print c " forget held k" c "." (i + 1) % 3
-} }' >"$work/busy.vs"
 awk 'BEGIN { print "1 record hello.ul"; for (c = 1; c <= 8; c++) for (i = 0; i < 3; i++) {
     print "1 v" c i " = lookup held k" c "." i
     print "1 play 0 v" c i " 0 20 kept" c i
@@ -87,6 +79,15 @@ last=0
 heard=0
 whole=yes
 for k in $(seq 1 30); do
+    # moments rise from run to run, so that the sweeps of each make room again, however far it comes
+    awk -v k="$k" 'BEGIN { for (i = 0; i < 40; i++) for (c = 1; c <= 8; c++) {
+        print c " a = record hello.ul"
+        print c " retain held k" c "." i % 3 " a -"
+        print c " play " c - 1 " a 0 20 out" c
+        print c " advance " (k * 1000 + i * 10)
+        print c " sweep 4"
+        print c " forget held k" c "." (i + 1) % 3
+    } }' >"$work/busy.vs"
     (cd "$work" && exec "$top/voice" run busy.vs --threads) >"$work/.out" 2>"$work/.err" &
     pid=$!
     sleep "0.$(awk -v k="$k" 'BEGIN { srand(k); printf "%03d", rand() * 500 }')"
