@@ -13,7 +13,7 @@ pub drop_both : (xs ys : List ℕ) (n : ℕ) → length xs ≤ n → drop (n - l
 drop_both xs ys n h = sym (drop-append-add xs ys (n - length xs)) ∙ ap (λ k. drop k (xs ++ ys)) (let e : length xs + (n - length xs) ≡ n = omega arith in e)
 
 -- the length of what is behind the whole blocks
-length-rest_of : (block : ℕ) (bytes : List ℕ) → 0 < block → length (rest_of block bytes) ≡ length bytes % block
+pub length-rest_of : (block : ℕ) (bytes : List ℕ) → 0 < block → length (rest_of block bytes) ≡ length bytes % block
 length-rest_of block bytes some =
     let part = length-drop (whole_length block (length bytes)) bytes in
     let less = mod-le (length bytes) block in

@@ -185,15 +185,6 @@ to_serve_is serves (Some _) lane h = cc
 pub file_there : (verb : Verb) (made : Option Reply) (lane : ℕ) (file : Option (List ℕ)) → to_serve (served verb) made ≡ Some lane → HasFile verb file → (name : List ℕ) × (file ≡ Some name)
 file_there verb made lane file h has = subst (λ o. IsNamed o file) (to_serve_is (served verb) made lane h) (file_named verb file has)
 
--- one more was heard, of that name
-pub one_named : (was now : List Heard) (h : Heard) (over : Bool) (file : Option (List ℕ)) → now ≡ was ++ h ∷ [] → over ≡ true → file ≡ Some h.file → names_in now ≡ names_in was ++ given_name over file
-one_named was now h over file grown is named =
-    ap names_in grown ∙ map-append (λ (x : Heard). x.file) was (h ∷ []) ∙ sym (ap (λ b. names_in was ++ given_name b file) is ∙ ap (λ o. names_in was ++ given_name true o) named)
-
--- nothing more was
-pub none_named : (was : List Heard) (over : Bool) (file : Option (List ℕ)) → over ≡ false → names_in was ≡ names_in was ++ given_name over file
-none_named was over file is = sym (ap (λ b. names_in was ++ given_name b file) is ∙ append-nil (names_in was))
-
 -- as one of the caller's
 abbrev as_by : ℕ → Entry → Entry
 as_by caller e = record e { caller = caller }

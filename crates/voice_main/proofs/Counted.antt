@@ -137,13 +137,13 @@ no_census honest first history sure (inr is) legal =
 
 -- ---- what a store that was closed leaves
 
-pub closed : {D : Type 0} (told : D → Told) (first : State) (entry origin final out : D) (inside : Inside) (shown history : List Entry) (made : List Entry → Bool → State → Type 0)
-    → origin ≡ entry → out ≡ final → Stands first (told origin) (told final) inside → (IsTrue (told entry).honest → image.opened_from (told entry).bytes ≡ Some first)
+pub closed : {D : Type 0} (told : D → Told) (first : State) (entry origin final out : D) (inside : Inside) (shown history : List Entry) (made : List Entry → Bool → State → Type 0) {wanted : Bool}
+    → origin ≡ entry → out ≡ final → Stands first (told origin) (told final) inside wanted → (IsTrue (told entry).honest → image.opened_from (told entry).bytes ≡ Some first)
     → inside.history.items ≡ shown → history ≡ shown → arc_value inside.tapes ≡ [] → ((IsTrue (told entry).honest → first.doubt ≡ None) → LegalOn (told entry).honest first [] shown → made shown (told entry).honest first)
     → Performed [] (made history) (told entry) (told out) history
-closed told first entry origin final out inside shown history made origin_is out_is stands opened inside_history same_history no_tapes so =
-    let from_entry = subst (λ d. Stands first (told d) (told final) inside) origin_is stands in
-    let to_out = subst (λ d. Stands first (told entry) (told d) inside) (sym out_is) from_entry in
+closed told first entry origin final out inside shown history made {wanted} origin_is out_is stands opened inside_history same_history no_tapes so =
+    let from_entry = subst (λ d. Stands first (told d) (told final) inside wanted) origin_is stands in
+    let to_out = subst (λ d. Stands first (told entry) (told d) inside wanted) (sym out_is) from_entry in
     let legal = legal_of first (told entry) (told out) inside [] shown to_out inside_history no_tapes in
     let sure : IsTrue (told entry).honest → first.doubt ≡ None = λ honest. opened_sure (told entry).bytes first (opened honest) in
     subst (λ h. Performed [] (made h) (told entry) (told out) h) (sym same_history) (performed_by first (told entry) (told out) inside [] shown (made shown) to_out opened inside_history no_tapes (so sure legal))

@@ -1,5 +1,5 @@
 -- What the lines of a serial run leave, and what their callers heard.
-use Rattle.std.proofs.Common.{◌≡◌, ◌≤◌, ℕ, suc, ◌⊎◌, inl, inr, List, [], ◌∷◌, ◌++◌, map, length, take, Some, Bool, true, false, refl, sym, subst, arith}
+use Rattle.std.proofs.Common.{◌≡◌, ◌+◌, ◌≤◌, ℕ, suc, ◌⊎◌, inl, inr, List, [], ◌∷◌, ◌++◌, map, length, take, Some, Bool, true, false, not, refl, sym, subst, arith}
 use Rattle.std.specs.Prelude.{IsTrue, All, Vec}
 use Rattle.std.specs.declared.alloc.Global.{Global}
 use Rattle.std.specs.Arc.{arc_value}
@@ -15,6 +15,7 @@ use Rattle.voice_model.specs.Follows.{Follows, variables_after}
 use Rattle.voice_model.specs.Valid.{Every}
 use Rattle.voice_store.specs.declared.inside.Inside.{Inside}
 use Rattle.voice_store.specs.Shown.{Stands}
+use Rattle.voice_store.specs.Turns.{ShortTurns}
 use Rattle.serving_laws.specs.Lanes.{IsAtRest}
 use Rattle.script_lang.specs.declared.scripts.Line.{Line}
 use Rattle.script_lang.specs.Shown.{Reading}
@@ -29,7 +30,7 @@ use Rattle.served_files.specs.Files.{IsHeard, AreEnough, heard_of, queues_of}
 use Rattle.served_files.proofs.Alone.{feeds_alone, enough}
 use Rattle.voice_main.specs.Ordered.{Variables, unset, with_those_of, InOrder, BeginsInOrder}
 use Rattle.voice_main.specs.Ran.{Begun, MadeGiving, Performed}
-use Rattle.voice_main.proofs.Came.{ended}
+use Rattle.voice_main.proofs.Came.{ended, in_short_turns}
 use Rattle.voice_main.proofs.Followed.{each_begins, each_follows, same_of_caller}
 use Rattle.voice_main.proofs.HeardLists.{queued_names, queued_bytes}
 use Rattle.voice_main.proofs.LineGiven.{all_asked}
@@ -103,7 +104,7 @@ begun_so honest first tapes script k history legal order = record { legal = lega
 
 -- the first lines, as they stand on the disk
 pub serial_begun :
-    {D : Type 0} (told : D → Told) (first : State) (entry origin final out : D) (inside : Inside) (lent tapes : List (List ℕ)) (script : Reading) (shown history : List Entry) → origin ≡ entry → out ≡ final → Stands first (told origin) (told final) inside
+    {D : Type 0} (told : D → Told) (first : State) (entry origin final out : D) (inside : Inside) (lent tapes : List (List ℕ)) (script : Reading) (shown history : List Entry) {wanted : Bool} → origin ≡ entry → out ≡ final → Stands first (told origin) (told final) inside wanted
     → (IsTrue (told entry).honest → opened_from (told entry).bytes ≡ Some first) → inside.history.items ≡ shown → history ≡ shown → arc_value inside.tapes ≡ tapes → lent ≡ tapes → (k : ℕ) × BeginsInOrder lent script.lines k (asked_entries shown)
     → (k : ℕ) × Performed tapes (Begun false tapes script k history) (told entry) (told out) history
 serial_begun told first entry origin final out inside lent tapes script shown history origin_is out_is stands opened inside_history same_history inside_tapes same_tapes order = (
@@ -121,8 +122,9 @@ named_so honest first tapes lines history lists legal names c some = subst (λ e
 giving_so :
     (honest : Bool) (first : State) (tapes : List (List ℕ)) (script : Reading) (history : List Entry) (lists : List (Vec Heard Global)) → IsWhole is_built_verb script → LegalOn honest first tapes history → InOrder tapes unset script.lines (asked_entries history)
     → ((c : ℕ) → 1 ≤ c → GivesFiles tapes [] (lines_of_caller c script.lines) (entries_of_caller c (asked_entries history)) (names_in (heard_of lists c)))
-    → (IsTrue honest → ((c : ℕ) → FeedsAlone script.lines c history) → (c : ℕ) → 1 ≤ c → GivesTo c first tapes history (bytes_in (heard_of lists c))) → MadeGiving false tapes script history (queues_of lists) honest first
-giving_so honest first tapes script history lists whole legal order names bytes =
+    → (IsTrue honest → ((c : ℕ) → FeedsAlone script.lines c history) → (c : ℕ) → 1 ≤ c → GivesTo c first tapes history (bytes_in (heard_of lists c)))
+    → (old new : Told) → ShortTurns first tapes (old.calls + 5) history new.calls → MadeGiving false tapes script old new history (queues_of lists) honest first
+giving_so honest first tapes script history lists whole legal order names bytes old new turns =
     let all : take (length script.lines) script.lines ≡ script.lines = take_all (length script.lines) script.lines (omega arith) in
     let follows = each_follows honest first tapes script.lines history legal order in
     let alone = feeds_alone tapes script.lines history whole.owners follows (some_caller script.callers history (asked_by tapes script history whole order)) in (
@@ -132,21 +134,28 @@ giving_so honest first tapes script history lists whole legal order names bytes 
         each = subst (λ l. (c : ℕ) → 1 ≤ c → Follows [] (map (errand_of tapes) (lines_of_caller c l)) (entries_of_caller c history)) (sym all) follows;
       },
       heard_so honest first tapes script.lines history lists (named_so honest first tapes script.lines history lists legal names) (λ is. bytes is alone),
+      turns,
     )
+
+-- what is not so
+pub never : (b : Bool) → not b ≡ true → b ≡ false
+never false e = refl
+never true e = let no : ⊥ = cc in absurd no
 
 -- all lines, as they stand on the disk
 pub serial_finished :
-    {D : Type 0} (told : D → Told) (first : State) (entry opened_origin origin final out : D) (inside : Inside) (lent tapes : List (List ℕ)) (script : Reading) (shown history : List Entry) (lists : List (Vec Heard Global)) → IsWhole is_built_verb script → opened_origin ≡ entry → origin ≡ entry → out ≡ final
-    → Stands first (told origin) (told final) inside → (IsTrue (told entry).honest → opened_from (told entry).bytes ≡ Some first) → inside.history.items ≡ shown → history ≡ shown → arc_value inside.tapes ≡ tapes → lent ≡ tapes → InOrder lent unset script.lines (asked_entries shown)
+    {D : Type 0} (told : D → Told) (first : State) (entry opened_origin origin final out : D) (inside : Inside) (lent tapes : List (List ℕ)) (script : Reading) (shown history : List Entry) (lists : List (Vec Heard Global)) (wanted : Bool) → IsWhole is_built_verb script → opened_origin ≡ entry → origin ≡ entry → out ≡ final
+    → Stands first (told origin) (told final) inside wanted → wanted ≡ false → (IsTrue (told entry).honest → opened_from (told entry).bytes ≡ Some first) → inside.history.items ≡ shown → history ≡ shown → arc_value inside.tapes ≡ tapes → lent ≡ tapes → InOrder lent unset script.lines (asked_entries shown)
     → ((c : ℕ) → 1 ≤ c → GivesFiles lent [] (lines_of_caller c script.lines) (entries_of_caller c (asked_entries shown)) (names_in (heard_of lists c)))
     → (IsTrue (told opened_origin).honest → opened_from (told opened_origin).bytes ≡ Some first → ((lane : ℕ) → IsAtRest first lane) → ((c : ℕ) → FeedsAlone script.lines c shown) → (c : ℕ) → 1 ≤ c → GivesTo c first lent shown (bytes_in (heard_of lists c)))
-    → Performed tapes (MadeGiving false tapes script history (queues_of lists)) (told entry) (told out) history
-serial_finished told first entry opened_origin origin final out inside lent tapes script shown history lists whole opened_is origin_is out_is stands opened inside_history same_history inside_tapes same_tapes order names bytes =
-    ended told first entry origin final out inside tapes shown history (λ h. MadeGiving false tapes script h (queues_of lists)) origin_is out_is stands opened inside_history same_history inside_tapes
+    → Performed tapes (MadeGiving false tapes script (told entry) (told out) history (queues_of lists)) (told entry) (told out) history
+serial_finished told first entry opened_origin origin final out inside lent tapes script shown history lists wanted whole opened_is origin_is out_is stands unwanted opened inside_history same_history inside_tapes same_tapes order names bytes =
+    ended told first entry origin final out inside tapes shown history (λ h. MadeGiving false tapes script (told entry) (told out) h (queues_of lists)) origin_is out_is stands opened inside_history same_history inside_tapes
     (λ legal. giving_so (told entry).honest first tapes script shown lists whole legal (subst (λ t. InOrder t unset script.lines (asked_entries shown)) same_tapes order)
     (λ c some. subst (λ t. GivesFiles t [] (lines_of_caller c script.lines) (entries_of_caller c (asked_entries shown)) (names_in (heard_of lists c))) same_tapes (names c some))
     (λ is alone c some. subst (λ t. GivesTo c first t shown (bytes_in (heard_of lists c))) same_tapes
-    (bytes (subst (λ d. IsTrue (told d).honest) (sym opened_is) is) (subst (λ d. opened_from (told d).bytes ≡ Some first) (sym opened_is) (opened is)) (opened_rests (told entry).bytes first (opened is)) alone c some)))
+    (bytes (subst (λ d. IsTrue (told d).honest) (sym opened_is) is) (subst (λ d. opened_from (told d).bytes ≡ Some first) (sym opened_is) (opened is)) (opened_rests (told entry).bytes first (opened is)) alone c some))
+    (told entry) (told out) (in_short_turns told first entry origin final out inside tapes shown wanted origin_is out_is stands unwanted inside_history inside_tapes))
 
 -- there is a file for each entry that ends a serving
 pub serial_enough :

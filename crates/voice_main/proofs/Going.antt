@@ -20,3 +20,8 @@ at_done (Err e) fine h = cc
 pub in_error : {T E P : Type 0} (r : Result T E) → P → OnErr r P
 in_error (Ok x) p = tt
 in_error (Err e) p = p
+
+-- what follows once it was done
+pub once_done : {T E P Q : Type 0} (r : Result T E) → (P → Q) → OnOk r P → OnOk r Q
+once_done (Ok x) f p = f p
+once_done (Err e) f p = tt

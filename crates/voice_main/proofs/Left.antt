@@ -55,16 +55,16 @@ left_unset threads tapes script (Some files) old new history ShelfFault opens = 
 left_unset threads tapes script (Some files) old new history NoMemory opens = inl refl
 left_unset threads tapes script (Some files) old new history status opens = refl
 
-sets_all : (threads : Bool) (tapes : List (List ℕ)) (script : Reading) (files : Files) (after : Option Files) (old new : Told) (history : List Entry) (queues : Queues) → Performed tapes (MadeGiving threads tapes script history queues) old new history
+sets_all : (threads : Bool) (tapes : List (List ℕ)) (script : Reading) (files : Files) (after : Option Files) (old new : Told) (history : List Entry) (queues : Queues) → Performed tapes (MadeGiving threads tapes script old new history queues) old new history
     → after ≡ Some (files_set history queues files) → SetsAll threads tapes script files after old new history
 sets_all threads tapes script files after old new history queues made set = record { first = made.first; made_so = (queues, made.made_so, set); disk = made.disk }
 
-sets_first : (threads : Bool) (tapes : List (List ℕ)) (script : Reading) (files : Files) (after : Option Files) (old new : Told) (history : List Entry) (queues : Queues) → Performed tapes (MadeGiving threads tapes script history queues) old new history
+sets_first : (threads : Bool) (tapes : List (List ℕ)) (script : Reading) (files : Files) (after : Option Files) (old new : Told) (history : List Entry) (queues : Queues) → Performed tapes (MadeGiving threads tapes script old new history queues) old new history
     → IfSome after (SetInto history queues files) → SetsFirst threads tapes script files after old new history
 sets_first threads tapes script files after old new history queues made set = record { first = made.first; made_so = (queues, made.made_so, set); disk = made.disk }
 
 -- a run whose files were set, or the first of them
-left_by : (threads : Bool) (tapes : List (List ℕ)) (script : Reading) (told after : Option Files) (old new : Told) (history : List Entry) (queues : Queues) (shelf sink : Type 0) (status : Status) → Performed tapes (MadeGiving threads tapes script history queues) old new history
+left_by : (threads : Bool) (tapes : List (List ℕ)) (script : Reading) (told after : Option Files) (old new : Told) (history : List Entry) (queues : Queues) (shelf sink : Type 0) (status : Status) → Performed tapes (MadeGiving threads tapes script old new history queues) old new history
     → Finishes shelf sink status → IfSome told (λ files. FilesStand history queues files after status) → IfSome told (λ files. Leaves threads tapes script files after old new history status)
 left_by threads tapes script None after old new history queues shelf sink status made finishes stand = tt
 left_by threads tapes script (Some files) after old new history queues shelf sink Done made finishes stand = sets_all threads tapes script files after old new history queues made stand
@@ -76,7 +76,7 @@ left_by threads tapes script (Some files) after old new history queues shelf sin
 
 -- the same, of what was lent to set the files
 pub left_lent : (threads : Bool) (tapes : List (List ℕ)) (script : Reading) (told after : Option Files) (old new : Told) (history lent : List Entry) (heard heard_lent : List (Vec Heard Global)) (shelf sink : Type 0) (status : Status) → lent ≡ history → heard_lent ≡ heard
-    → Performed tapes (MadeGiving threads tapes script history (queues_of heard)) old new history → Finishes shelf sink status → IfSome told (λ files. FilesStand lent (queues_of heard_lent) files after status)
+    → Performed tapes (MadeGiving threads tapes script old new history (queues_of heard)) old new history → Finishes shelf sink status → IfSome told (λ files. FilesStand lent (queues_of heard_lent) files after status)
     → IfSome told (λ files. Leaves threads tapes script files after old new history status)
 left_lent threads tapes script told after old new history lent heard heard_lent shelf sink status same same_heard made finishes stand =
     left_by threads tapes script told after old new history (queues_of heard) shelf sink status made finishes

@@ -25,7 +25,7 @@ use Rattle.servings.specs.Asked.{asked_entries, is_landing, AreBy}
 use Rattle.servings.specs.Alone.{HasServedAlone}
 use Rattle.servings.specs.Servings.{HasHeard, IsWhatWasHeard}
 use Rattle.served_files.specs.declared.heard.Heard.{Heard}
-use Rattle.served_files.specs.Given.{is_feed, is_over, ends_serving, gives_to, passage_fed, GivesTo, bytes_in}
+use Rattle.served_files.specs.Given.{is_feed, is_over, ends_serving, gives_to, passage_fed, GivesTo, bytes_in, given_bytes}
 use Rattle.served_files.proofs.Servings.{serving_ends, none_before, feeds_its_lane, feeds_is}
 use Rattle.served_files.proofs.Bytes.{gives_append, gives_none, gives_one}
 use Rattle.voice_main.specs.Done.{CallMade, LaneGave, LineGave}
@@ -106,19 +106,6 @@ every_quiet c [] h = tt
 every_quiet c (e ∷ es) h = (quiet_to c e h.0, every_quiet c es h.1)
 
 -- ---- a serving
-
--- the bytes that are given, where a job is over
-abbrev pub given_bytes : Bool → List ℕ → List (List ℕ)
-given_bytes true bytes = bytes ∷ []
-given_bytes false bytes = []
-
--- one more was heard, of these bytes
-pub one_heard : (was now : List Heard) (h : Heard) (over : Bool) → now ≡ was ++ h ∷ [] → over ≡ true → bytes_in now ≡ bytes_in was ++ given_bytes over h.bytes.items
-one_heard was now h over grown is = ap bytes_in grown ∙ map-append (λ (x : Heard). x.bytes.items) was (h ∷ []) ∙ sym (ap (λ b. bytes_in was ++ given_bytes b h.bytes.items) is)
-
--- nothing more was
-pub none_more : (was : List Heard) (bytes : List ℕ) (over : Bool) → over ≡ false → bytes_in was ≡ bytes_in was ++ given_bytes over bytes
-none_more was bytes over is = sym (ap (λ b. bytes_in was ++ given_bytes b bytes) is ∙ append-nil (bytes_in was))
 
 heard_so : (reply : Reply) (passage bytes : List ℕ) → is_over reply ≡ true → IsWhatWasHeard (heard_bytes reply passage) bytes → heard_bytes reply passage ≡ Some bytes
 heard_so (replies.Ended job n) passage bytes h k = ap Some (sym k)

@@ -1,5 +1,5 @@
 -- A store that the callers of a script share.
-use Rattle.std.proofs.Common.{◌≡◌, ◌<◌, ◌≤◌, ◌+◌, ◌-◌, ◌⊎◌, ℕ, zero, suc, inl, inr, Bool, true, false, List, [], ◌∷◌, ◌++◌, length, get_or, drop, cond, ◌==◌, refl, sym, ap, subst, ◌∙◌, arith, append-nil, Some}
+use Rattle.std.proofs.Common.{◌≡◌, ◌<◌, ◌≤◌, ◌+◌, ◌-◌, ◌⊎◌, ◌&&◌, not, ℕ, zero, suc, inl, inr, Bool, true, false, List, [], ◌∷◌, ◌++◌, length, get_or, drop, cond, ◌==◌, refl, sym, ap, subst, ◌∙◌, arith, append-nil, Some}
 use Rattle.std.specs.Prelude.{All, Vec, IsTrue, count_by}
 use Rattle.std.specs.declared.alloc.Global.{Global}
 use Rattle.std.proofs.lemmas.Bool.Decides.{nat_tests}
@@ -42,7 +42,7 @@ use Rattle.callers.specs.Lines.{FollowedInto}
 use Rattle.callers.specs.Seats.{PassRan, EachRan, IsReadyPass}
 use Rattle.voice_main.specs.Ordered.{EachFollows}
 use Rattle.voice_main.specs.Ran.{Shared, SharedWhole, Begun, MadeGiving, Performed}
-use Rattle.voice_main.proofs.Came.{performed_by, legal_of}
+use Rattle.voice_main.proofs.Came.{performed_by, legal_of, in_short_turns}
 use Rattle.voice_main.proofs.Finished.{heard_so, files_named, some_caller, as_many}
 use Rattle.voice_main.proofs.Rested.{opened_rests}
 
@@ -290,17 +290,20 @@ begun_shared told s entry out tapes script memory lists history k origin same_ta
 -- all lines, and what their callers heard
 pub made_shared : {D : Type 0} (told : D → Told) (s : Shown D) (entry out : D) (tapes : List (List ℕ)) (script : Reading) (memory : Bool) (lists : List (Vec Heard Global)) (history : List Entry) → (k : IsKept told s) → s.origin ≡ entry → (tapes_in s) ≡ tapes → out ≡ s.disk → history ≡ (history_of s)
     → Every (IsOfPasses script.callers) (history_of s) → ((c : ℕ) → 1 ≤ c → Own tapes script.lines memory c (entries_of_caller c (history_of s)) (names_in (heard_of lists c)))
-    → ((first : State) → IsTrue (told s.origin).honest → opened_from (told s.origin).bytes ≡ Some first → (c : ℕ) → 1 ≤ c → GivesTo c first tapes (history_of s) (bytes_in (heard_of lists c))) → memory ≡ true
-    → Performed tapes (MadeGiving true tapes script history (queues_of lists)) (told entry) (told out) history
-made_shared told s entry out tapes script memory lists history k origin same_tapes same_disk same_history of own bytes done =
+    → ((first : State) → IsTrue (told s.origin).honest → opened_from (told s.origin).bytes ≡ Some first → (c : ℕ) → 1 ≤ c → GivesTo c first tapes (history_of s) (bytes_in (heard_of lists c))) → memory ≡ true → s.wanted ≡ false
+    → Performed tapes (MadeGiving true tapes script (told entry) (told out) history (queues_of lists)) (told entry) (told out) history
+made_shared told s entry out tapes script memory lists history k origin same_tapes same_disk same_history of own bytes done unwanted =
     let legal = legal_of k.first (told s.origin) (told s.disk) s.inside tapes (history_of s) k.keeps refl same_tapes in
     let queues = queues_of lists in
     let shared : SharedWhole (told s.origin).honest k.first tapes script (history_of s) = record { legal = legal; of = of; each = own_follows tapes script.lines memory (history_of s) lists own done } in
-    let made : MadeGiving true tapes script (history_of s) queues (told s.origin).honest k.first =
-    (shared, heard_so (told s.origin).honest k.first tapes script.lines (history_of s) lists (λ c some. (own c some).gave done) (λ honest. bytes k.first honest (k.opened honest))) in
-    let there : Performed tapes (MadeGiving true tapes script (history_of s) queues) (told s.origin) (told s.disk) (history_of s) = performed_by k.first (told s.origin) (told s.disk) s.inside tapes (history_of s) (MadeGiving true tapes script (history_of s) queues) k.keeps k.opened refl same_tapes made in
-    subst (λ h. Performed tapes (MadeGiving true tapes script h queues) (told entry) (told out) h) (sym same_history)
-    (subst (λ d. Performed tapes (MadeGiving true tapes script (history_of s) queues) (told entry) (told d) (history_of s)) (sym same_disk) (subst (λ d. Performed tapes (MadeGiving true tapes script (history_of s) queues) (told d) (told s.disk) (history_of s)) origin there))
+    let made : MadeGiving true tapes script (told s.origin) (told s.disk) (history_of s) queues (told s.origin).honest k.first = (
+      shared,
+      heard_so (told s.origin).honest k.first tapes script.lines (history_of s) lists (λ c some. (own c some).gave done) (λ honest. bytes k.first honest (k.opened honest)),
+      in_short_turns told k.first s.origin s.origin s.disk s.disk s.inside tapes (history_of s) s.wanted refl refl k.keeps unwanted refl same_tapes,
+    ) in
+    let there : Performed tapes (MadeGiving true tapes script (told s.origin) (told s.disk) (history_of s) queues) (told s.origin) (told s.disk) (history_of s) = performed_by k.first (told s.origin) (told s.disk) s.inside tapes (history_of s) (MadeGiving true tapes script (told s.origin) (told s.disk) (history_of s) queues) k.keeps k.opened refl same_tapes made in
+    subst (λ h. Performed tapes (MadeGiving true tapes script (told entry) (told out) h queues) (told entry) (told out) h) (sym same_history)
+    (subst (λ d. Performed tapes (MadeGiving true tapes script (told entry) (told d) (history_of s) queues) (told entry) (told d) (history_of s)) (sym same_disk) (subst (λ d. Performed tapes (MadeGiving true tapes script (told d) (told s.disk) (history_of s) queues) (told d) (told s.disk) (history_of s)) origin there))
 
 -- there is a file for each entry that ends a serving
 pub shared_enough : (tapes : List (List ℕ)) (script : Reading) (memory : Bool) (lists : List (Vec Heard Global)) (shown history : List Entry) → IsWhole is_built_verb script → history ≡ shown → Every (IsOfPasses script.callers) shown → length lists ≡ script.callers
@@ -313,6 +316,12 @@ shared_enough tapes script memory lists shown history whole same of count own do
 
 no_true : false ≡ true → ⊥
 no_true e = cc
+
+-- no caller wanted memory, and the store didn't
+pub both_fine : (memory wanted : Bool) → (memory && not wanted) ≡ true → (memory ≡ true) × (wanted ≡ false)
+both_fine true false e = (refl, refl)
+both_fine true true e = absurd (no_true e)
+both_fine false wanted e = absurd (no_true e)
 
 -- where none began
 pub begun_fresh : {D : Type 0} (told : D → Told) (s : Shown D) (entry out : D) (tapes : List (List ℕ)) (script : Reading) (history : List Entry) → IsKept told s → s.origin ≡ entry → (tapes_in s) ≡ tapes → out ≡ s.disk → history ≡ (history_of s) → (history_of s) ≡ []
@@ -333,7 +342,7 @@ pub begun_from : {D : Type 0} (told : D → Told) (origin entry out : D) (lent t
 begun_from told origin entry out lent tapes script k history there is h =
     subst (λ d. Performed tapes (Begun true tapes script k history) (told d) (told out) history) there (subst (λ t. Performed t (Begun true t script k history) (told origin) (told out) history) is h)
 
-pub made_from : {D : Type 0} (told : D → Told) (origin entry out : D) (lent tapes : List (List ℕ)) (script : Reading) (lists : List (Vec Heard Global)) (history : List Entry) → origin ≡ entry → lent ≡ tapes → Performed lent (MadeGiving true lent script history (queues_of lists)) (told origin) (told out) history
-    → Performed tapes (MadeGiving true tapes script history (queues_of lists)) (told entry) (told out) history
+pub made_from : {D : Type 0} (told : D → Told) (origin entry out : D) (lent tapes : List (List ℕ)) (script : Reading) (lists : List (Vec Heard Global)) (history : List Entry) → origin ≡ entry → lent ≡ tapes → Performed lent (MadeGiving true lent script (told origin) (told out) history (queues_of lists)) (told origin) (told out) history
+    → Performed tapes (MadeGiving true tapes script (told entry) (told out) history (queues_of lists)) (told entry) (told out) history
 made_from told origin entry out lent tapes script lists history there is h =
-    subst (λ d. Performed tapes (MadeGiving true tapes script history (queues_of lists)) (told d) (told out) history) there (subst (λ t. Performed t (MadeGiving true t script history (queues_of lists)) (told origin) (told out) history) is h)
+    subst (λ d. Performed tapes (MadeGiving true tapes script (told d) (told out) history (queues_of lists)) (told d) (told out) history) there (subst (λ t. Performed t (MadeGiving true t script (told origin) (told out) history (queues_of lists)) (told origin) (told out) history) is h)

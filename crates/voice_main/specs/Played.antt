@@ -22,11 +22,11 @@ FilesStand history queues files after _ = Unit {0}
 
 -- the history of the whole script, and its files set
 abbrev pub SetsAll : Bool → List (List ℕ) → Reading → Files → Option Files → Told → Told → List Entry → Type 0
-SetsAll threads tapes script files after old new history = Performed tapes (λ honest first. MadeSetting threads tapes script history files after honest first) old new history
+SetsAll threads tapes script files after old new history = Performed tapes (λ honest first. MadeSetting threads tapes script old new history files after honest first) old new history
 
 -- the history of the whole script, and the first of its files set
 abbrev pub SetsFirst : Bool → List (List ℕ) → Reading → Files → Option Files → Told → Told → List Entry → Type 0
-SetsFirst threads tapes script files after old new history = Performed tapes (λ honest first. MadeSettingInto threads tapes script history files after honest first) old new history
+SetsFirst threads tapes script files after old new history = Performed tapes (λ honest first. MadeSettingInto threads tapes script old new history files after honest first) old new history
 
 -- what stands of the files after the calls, whatever the status is: all are set where the run is done, or only its text couldn't be printed; the first of them where one couldn't be set; else none
 abbrev pub Leaves : Bool → List (List ℕ) → Reading → Files → Option Files → Told → Told → List Entry → Status → Type 0

@@ -5,7 +5,7 @@
 --     Shared honest first tapes script history      the history of callers on threads: legal on a disk of this honesty, and each caller's entries following the first of its lines, the last of them perhaps in part
 --     Performed tapes made old new history      a disk that was opened, and a history over it that was made so
 --     IsReady files name script tapes      the script of that name is there, and so are its sample files
---     MadeGiving, MadeSetting, MadeSettingInto      the history of the whole script, and what its callers heard; the files that it set;  the first of them
+--     MadeGiving, MadeSetting, MadeSettingInto      the history of the whole script, in short turns, and what its callers heard; the files that it set;  the first of them
 --     RanSoFar      the history of the first lines of the script
 --     RanWhole, RanInto      the history of all, and all its files set, or the first of them
 use Rattle.std.specs.Prelude.{ℕ, List, ◌≡◌, ◌≤◌, ◌+◌, Bool, true, false, Option, Some, IfSome, IsTrue, length, take}
@@ -20,6 +20,7 @@ use Rattle.voice_model.specs.Crash.{Held}
 use Rattle.turnstile.specs.Turns.{Every, IsOfPasses}
 use Rattle.voice_store.specs.Stood.{AcksRise}
 use Rattle.voice_store.specs.Shown.{FaultsCover}
+use Rattle.voice_store.specs.Turns.{ShortTurns}
 use Rattle.script_lang.specs.declared.scripts.Line.{Line}
 use Rattle.script_lang.specs.Shown.{Reading}
 use Rattle.script_lang.specs.Verbs.{is_built_verb}
@@ -76,17 +77,18 @@ abbrev pub Made : Bool → List (List ℕ) → Reading → List Entry → Bool �
 Made false tapes script history honest first = Serial honest first tapes script.lines (length script.lines) history
 Made true tapes script history honest first = SharedWhole honest first tapes script history
 
--- the history of the whole script, and what its callers heard
-abbrev pub MadeGiving : Bool → List (List ℕ) → Reading → List Entry → Queues → Bool → State → Type 0
-MadeGiving threads tapes script history queues honest first = Made threads tapes script history honest first × IsHeard honest first tapes script.lines history queues
+-- the history of the whole script, what its callers heard, and each entry within the device calls that it may take, of which opening made five at most
+abbrev pub MadeGiving : Bool → List (List ℕ) → Reading → Told → Told → List Entry → Queues → Bool → State → Type 0
+MadeGiving threads tapes script old new history queues honest first =
+    Made threads tapes script history honest first × IsHeard honest first tapes script.lines history queues × ShortTurns first tapes (old.calls + 5) history new.calls
 
 -- the history of the whole script, and the files once those of its servings are set
-abbrev pub MadeSetting : Bool → List (List ℕ) → Reading → List Entry → Files → Option Files → Bool → State → Type 0
-MadeSetting threads tapes script history files after honest first = (queues : Queues) × MadeGiving threads tapes script history queues honest first × (after ≡ Some (files_set history queues files))
+abbrev pub MadeSetting : Bool → List (List ℕ) → Reading → Told → Told → List Entry → Files → Option Files → Bool → State → Type 0
+MadeSetting threads tapes script old new history files after honest first = (queues : Queues) × MadeGiving threads tapes script old new history queues honest first × (after ≡ Some (files_set history queues files))
 
 -- the same where one of them couldn't be set: those before it are, and what it holds is open
-abbrev pub MadeSettingInto : Bool → List (List ℕ) → Reading → List Entry → Files → Option Files → Bool → State → Type 0
-MadeSettingInto threads tapes script history files after honest first = (queues : Queues) × MadeGiving threads tapes script history queues honest first × IfSome after (SetInto history queues files)
+abbrev pub MadeSettingInto : Bool → List (List ℕ) → Reading → Told → Told → List Entry → Files → Option Files → Bool → State → Type 0
+MadeSettingInto threads tapes script old new history files after honest first = (queues : Queues) × MadeGiving threads tapes script old new history queues honest first × IfSome after (SetInto history queues files)
 
 -- a disk that was opened, and a history over it that was made so, as the disk is honest or not
 pub record Performed (tapes : List (List ℕ)) (made : Bool → State → Type 0) (old new : Told) (history : List Entry) : Type 0 where
@@ -120,8 +122,8 @@ RanSoFar threads files name old new history = (k : ℕ) × Ran files name (λ ta
 
 -- the history of the whole script, and its files set
 abbrev pub RanWhole : Bool → Files → List ℕ → Outside → Outside → List Entry → Type 0
-RanWhole threads files name old new history = Ran files name (λ tapes script honest first. MadeSetting threads tapes script history files new.files honest first) old.disk new.disk history
+RanWhole threads files name old new history = Ran files name (λ tapes script honest first. MadeSetting threads tapes script old.disk new.disk history files new.files honest first) old.disk new.disk history
 
 -- the history of the whole script, and the first of its files set
 abbrev pub RanInto : Bool → Files → List ℕ → Outside → Outside → List Entry → Type 0
-RanInto threads files name old new history = Ran files name (λ tapes script honest first. MadeSettingInto threads tapes script history files new.files honest first) old.disk new.disk history
+RanInto threads files name old new history = Ran files name (λ tapes script honest first. MadeSettingInto threads tapes script old.disk new.disk history files new.files honest first) old.disk new.disk history

@@ -16,13 +16,13 @@ ghost use Rattle.script_lang.specs.Parts.{served};
 ghost use Rattle.script_lang.specs.Whole.{IsWhole};
 ghost use Rattle.servings.specs.Asked.{asked_entries};
 ghost use Rattle.served_files.specs.Lines.{lines_of_caller, entries_of_caller};
-ghost use Rattle.served_files.specs.Given.{is_over, GivesFiles, GivesTo, FeedsAlone};
+ghost use Rattle.served_files.specs.Given.{GivesFiles, GivesTo, FeedsAlone};
 ghost use Rattle.served_files.specs.Files.{heard_of};
 ghost use Rattle.voice_main.specs.Ordered.{InOrder, BeginsInOrder, LineBegan, unset};
 ghost use Rattle.voice_main.specs.Done.{to_serve, CallMade, LaneServed, LaneServedInto, LaneGave, LineDone, LineGave};
 
 use script_lang::{Env, Line, Script, Verb, resolve};
-use served_files::Heard;
+use served_files::{Heard, keep};
 use servings::serve_alone;
 use std::alloc::Global;
 use voice_model::{Reply, Tapes};
@@ -50,13 +50,6 @@ fn lane_behind(verb: &Verb, made: &Option<Reply>) -> Option<Lane>
         Some(Reply::Job(_)) => lane_of(verb),
         Some(_) => None,
     }
-}
-
-// Whether a reply tells that a job is over.
-fn is_over(reply: &Reply) -> bool
-    ensures { result ≡ is_over reply.now }
-{
-    matches!(reply, Reply::Ended(_, _) | Reply::Stopped(_, _))
 }
 
 // Makes the call of a line, if it has one, and sets the variable that it binds. After `NoMemory` the call's entry may stand.
@@ -125,14 +118,7 @@ fn serve_line<D: Disk, G: Gate>(
         line.number,
         turn,
     )?;
-    if !is_over(&reply) {
-        return Ok(());
-    }
-    heard.push(Heard {
-        file: file.name(),
-        bytes,
-    })?;
-    Ok(())
+    keep(heard, file.name(), bytes, &reply)
 }
 
 // Does a line: makes its call, if it has one, and then serves its lane, if it serves one. After `NoMemory` the first of the line's entries may stand.

@@ -1,6 +1,6 @@
 //! The lines of a script, each caller's on a thread of its own.
 
-ghost use Rattle.std.specs.Prelude.{ℕ, [], ◌≡◌, ◌≤◌, true, IfOk, IfErr, length};
+ghost use Rattle.std.specs.Prelude.{ℕ, [], ◌≡◌, ◌≤◌, ◌&&◌, not, true, IfOk, IfErr, length};
 ghost use Rattle.std.specs.Arc.{arc_value};
 ghost use Rattle.script_lang.specs.Verbs.{is_built_verb};
 ghost use Rattle.script_lang.specs.Whole.{IsWhole};
@@ -25,13 +25,14 @@ use voice_outside::{Disk, Gate};
 use voice_server::Server;
 use voice_store::Store;
 
-// What a store leaves.
-fn closed<D: Disk>(store: Store<D>, heard: Vec<Vec<Heard>>, is_finished: bool) -> Called<D>
+// What a store leaves. The calls are finished where no caller wanted memory, and the store didn't.
+fn closed<D: Disk>(store: Store<D>, heard: Vec<Vec<Heard>>, memory: bool) -> Called<D>
     ensures disk { result.disk ≡ store.disk }
     ensures history { result.history.items ≡ history_of store }
     ensures heard { result.heard.items ≡ heard.items }
-    ensures finished { result.is_finished ≡ is_finished }
+    ensures finished { result.is_finished ≡ (memory && not store.wanted) }
 {
+    let is_finished = memory && !store.wanted();
     let (disk, history) = store.close();
     Called {
         disk,
@@ -56,7 +57,7 @@ fn share<R: Threads + Wait + Sync, D: Disk, G: Gate>(
     requires whole { IsWhole is_built_verb script.now }
     requires there { length tapes.now ≡ length script.now.samples }
     ensures so_far { (k : ℕ) × Performed tapes.now (Begun true tapes.now script.now k result.history.items) (D.told store.origin) (D.told result.disk) result.history.items }
-    ensures finished { result.is_finished ≡ true → Performed tapes.now (MadeGiving true tapes.now script.now result.history.items (queues_of result.heard.items)) (D.told store.origin) (D.told result.disk) result.history.items }
+    ensures finished { result.is_finished ≡ true → Performed tapes.now (MadeGiving true tapes.now script.now (D.told store.origin) (D.told result.disk) result.history.items (queues_of result.heard.items)) (D.told store.origin) (D.told result.disk) result.history.items }
     ensures enough { result.is_finished ≡ true → AreEnough result.history.items result.heard.items × (length result.heard.items ≤ 16) }
     ensures goes { GoesOn (D.told store.origin) (D.told result.disk) }
 {
@@ -71,7 +72,8 @@ fn share<R: Threads + Wait + Sync, D: Disk, G: Gate>(
         heard,
         memory,
     } = run_threads(rt, alloc, &server, passes, script, tapes, gate);
-    closed(server.close(passes, Vec::new(alloc)), heard, memory)
+    let store = server.close(passes, Vec::new(alloc));
+    closed(store, heard, memory)
 }
 
 /// Opens the disk's store, and makes the calls of a script, each caller's lines on a thread of its own.
@@ -85,7 +87,7 @@ pub(crate) fn call_on_threads<R: Threads + Wait + Sync, D: Disk, G: Gate>(
     requires whole { IsWhole is_built_verb scripted.now.script }
     requires there { length (arc_value scripted.now.tapes) ≡ length scripted.now.script.samples }
     ensures so_far { IfOk result (λ called. (k : ℕ) × Performed (arc_value scripted.now.tapes) (Begun true (arc_value scripted.now.tapes) scripted.now.script k called.history.items) (D.told disk) (D.told called.disk) called.history.items) }
-    ensures finished { IfOk result (λ called. called.is_finished ≡ true → Performed (arc_value scripted.now.tapes) (MadeGiving true (arc_value scripted.now.tapes) scripted.now.script called.history.items (queues_of called.heard.items)) (D.told disk) (D.told called.disk) called.history.items) }
+    ensures finished { IfOk result (λ called. called.is_finished ≡ true → Performed (arc_value scripted.now.tapes) (MadeGiving true (arc_value scripted.now.tapes) scripted.now.script (D.told disk) (D.told called.disk) called.history.items (queues_of called.heard.items)) (D.told disk) (D.told called.disk) called.history.items) }
     ensures enough { IfOk result (λ called. called.is_finished ≡ true → AreEnough called.history.items called.heard.items × (length called.heard.items ≤ 16)) }
     ensures opens { IfErr result (λ e. Opens (D.told disk) (D.told e.1) e.0) }
     ensures looks { IfErr result (λ e. IsUnchanged (D.told disk) (D.told e.1)) }

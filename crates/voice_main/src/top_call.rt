@@ -24,6 +24,7 @@ use crate::convert::convert;
 use crate::format::format;
 use crate::load::{file, files, load_status};
 use crate::options::format_numbers;
+use crate::output::print;
 use crate::played::finish;
 use crate::script_lines::run_lines;
 use crate::status::Status;
@@ -119,7 +120,7 @@ fn call_lines<D: Disk, G: Gate>(
     requires whole { IsWhole is_built_verb scripted.now.script }
     requires there { length (arc_value scripted.now.tapes) ≡ length scripted.now.script.samples }
     ensures so_far { IfOk result (λ called. (k : ℕ) × Performed (arc_value scripted.now.tapes) (Begun false (arc_value scripted.now.tapes) scripted.now.script k called.history.items) (D.told disk) (D.told called.disk) called.history.items) }
-    ensures finished { IfOk result (λ called. called.is_finished ≡ true → Performed (arc_value scripted.now.tapes) (MadeGiving false (arc_value scripted.now.tapes) scripted.now.script called.history.items (queues_of called.heard.items)) (D.told disk) (D.told called.disk) called.history.items) }
+    ensures finished { IfOk result (λ called. called.is_finished ≡ true → Performed (arc_value scripted.now.tapes) (MadeGiving false (arc_value scripted.now.tapes) scripted.now.script (D.told disk) (D.told called.disk) called.history.items (queues_of called.heard.items)) (D.told disk) (D.told called.disk) called.history.items) }
     ensures enough { IfOk result (λ called. called.is_finished ≡ true → AreEnough called.history.items called.heard.items × (length called.heard.items ≤ 16)) }
     ensures opens { IfErr result (λ e. Opens (D.told disk) (D.told e.1) e.0) }
     ensures looks { IfErr result (λ e. IsUnchanged (D.told disk) (D.told e.1)) }
@@ -134,6 +135,7 @@ fn call_lines<D: Disk, G: Gate>(
         Err((e, disk)) => return Err((open_status(e), disk)),
     };
     let ran = run_lines(alloc, &mut store, &scripted.tapes, &scripted.script, gate);
+    let wanted = store.wanted();
     let (disk, history) = store.close();
     let Ok(heard) = ran else {
         return Ok(Called {
@@ -147,7 +149,7 @@ fn call_lines<D: Disk, G: Gate>(
         disk,
         history,
         heard,
-        is_finished: true,
+        is_finished: !wanted,
     })
 }
 
@@ -163,7 +165,7 @@ fn call_all<R: Threads + Wait + Sync, D: Disk, G: Gate>(
     requires whole { IsWhole is_built_verb scripted.now.script }
     requires there { length (arc_value scripted.now.tapes) ≡ length scripted.now.script.samples }
     ensures so_far { IfOk result (λ called. (k : ℕ) × Performed (arc_value scripted.now.tapes) (Begun threads (arc_value scripted.now.tapes) scripted.now.script k called.history.items) (D.told disk) (D.told called.disk) called.history.items) }
-    ensures finished { IfOk result (λ called. called.is_finished ≡ true → Performed (arc_value scripted.now.tapes) (MadeGiving threads (arc_value scripted.now.tapes) scripted.now.script called.history.items (queues_of called.heard.items)) (D.told disk) (D.told called.disk) called.history.items) }
+    ensures finished { IfOk result (λ called. called.is_finished ≡ true → Performed (arc_value scripted.now.tapes) (MadeGiving threads (arc_value scripted.now.tapes) scripted.now.script (D.told disk) (D.told called.disk) called.history.items (queues_of called.heard.items)) (D.told disk) (D.told called.disk) called.history.items) }
     ensures enough { IfOk result (λ called. called.is_finished ≡ true → AreEnough called.history.items called.heard.items × (length called.heard.items ≤ 16)) }
     ensures opens { IfErr result (λ e. Opens (D.told disk) (D.told e.1) e.0) }
     ensures looks { IfErr result (λ e. IsUnchanged (D.told disk) (D.told e.1)) }
@@ -207,6 +209,8 @@ fn perform<R: Threads + Wait + Sync, K: Shelf, O: Sink, D: Disk, G: Gate>(
         },
     };
     if !called.is_finished {
+        // as far as it goes: it may want memory too, or the sink may fail
+        let _printed = print(alloc, &called.history, out);
         return Ended {
             status: Status::NoMemory,
             disk: called.disk,

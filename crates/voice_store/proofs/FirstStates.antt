@@ -1,6 +1,6 @@
 -- The state as which a disk opens.
 use Rattle.voice_store.proofs.Filled.{opened_filled}
-use Rattle.std.proofs.Common.{◌≡◌, inl, ℕ, zero, suc, ◌+◌, ◌-◌, ◌≤◌, ◌<◌, List, [], ◌∷◌, replicate, Some, None, IsTrue, refl, sym, ◌∙◌, ap, subst, arith}
+use Rattle.std.proofs.Common.{◌≡◌, inl, ℕ, zero, suc, ◌+◌, ◌-◌, ◌≤◌, ◌<◌, List, [], ◌∷◌, replicate, Some, None, IsTrue, false, refl, sym, ◌∙◌, ap, subst, arith}
 use Rattle.std.proofs.lemmas.List.{length-replicate}
 use Rattle.std.specs.Prelude.{slice_get}
 use Rattle.voice_units.specs.declared.shapes.Shape.{Shape}
@@ -38,6 +38,7 @@ use Rattle.voice_store.specs.Playing.{IsPlaying}
 use Rattle.voice_store.proofs.Played.{IsEmptyOf, playing_first}
 use Rattle.std.specs.Prelude.{count_by}
 use Rattle.voice_store.specs.Shown.{Stands}
+use Rattle.voice_store.specs.Turns.{ShortTurns}
 use Rattle.voice_store.specs.Stood.{is_fault}
 use Rattle.voice_store.specs.Facts.{Goes}
 use Rattle.voice_store.proofs.Refusals.{refused_there}
@@ -177,16 +178,19 @@ module _ (t0 : ℕ) (bytes : List ℕ) (disk : Told) (s : Inside) (b : Rebuilt) 
   }
 
 -- with an empty history it stands, seen from the disk as it was before
-stands_first : (first : State) (origin disk : Told) (s : Inside) → s.history.items ≡ [] → Goes 5 origin disk → Stood first (origin.calls + 1) disk s → Stands first origin disk s
+stands_first : (first : State) (origin disk : Told) (s : Inside) → s.history.items ≡ [] → Goes 5 origin disk → Stood first (origin.calls + 1) disk s → Stands first origin disk s false
 stands_first first origin disk s items goes stood =
     let faults = goes.faults in
+    let calls = goes.calls in
+    let none_yet : ShortTurns first (tapes_of s) (origin.calls + 5) [] disk.calls = (let few : disk.calls ≤ origin.calls + 5 = omega (arith, calls) in few) in
     record {
       stood = stood;
       faults = λ _. (subst (λ (l : List Entry). origin.faults + count_by is_fault l ≤ disk.faults) (sym items) (omega (arith, faults)));
       size = goes.size;
       honest = goes.honest;
+      turns = λ _. subst (λ (l : List Entry). ShortTurns first (tapes_of s) (origin.calls + 5) l disk.calls) (sym items) none_yet;
     }
 
 -- the same, seen from a copy of it
-pub stands_by_copy : {D : Type 0} (told : D → Told) (copy old : D) → copy ≡ old → (first : State) (disk : Told) (s : Inside) → s.history.items ≡ [] → Goes 5 (told old) disk → Stood first ((told old).calls + 1) disk s → Stands first (told copy) disk s
-stands_by_copy {D} told copy old same first disk s items goes stood = subst (λ (d : D). Stands first (told d) disk s) (sym same) (stands_first first (told old) disk s items goes stood)
+pub stands_by_copy : {D : Type 0} (told : D → Told) (copy old : D) → copy ≡ old → (first : State) (disk : Told) (s : Inside) → s.history.items ≡ [] → Goes 5 (told old) disk → Stood first ((told old).calls + 1) disk s → Stands first (told copy) disk s false
+stands_by_copy {D} told copy old same first disk s items goes stood = subst (λ (d : D). Stands first (told d) disk s false) (sym same) (stands_first first (told old) disk s items goes stood)

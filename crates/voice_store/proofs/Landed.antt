@@ -1,5 +1,5 @@
 -- A call after a landing.
-use Rattle.std.proofs.Common.{◌≡◌, ◌⊎◌, inl, inr, ℕ, ◌+◌, ◌≤◌, true, ◌&&◌, List, [], ◌∷◌, ◌++◌, None, IsTrue, is_some, sym, ◌∙◌, ap, subst, arith}
+use Rattle.std.proofs.Common.{◌≡◌, ◌⊎◌, inl, inr, ℕ, ◌+◌, ◌≤◌, Bool, true, ◌&&◌, List, [], ◌∷◌, ◌++◌, None, IsTrue, is_some, sym, ◌∙◌, ap, subst, arith}
 use Rattle.std.specs.Prelude.{Result, Ok, Err, IfOk, OnErr, Vec}
 use Rattle.std.specs.declared.alloc.Global.{Global}
 use Rattle.std.proofs.lemmas.List.{append_assoc}
@@ -17,6 +17,7 @@ use Rattle.voice_model.specs.declared.calls.Entry.{Entry}
 use Rattle.voice_store.specs.declared.inside.Inside.{Inside}
 use Rattle.voice_store.specs.Stood.{last_of, tapes_of, Stood, Fills, Brings, IsSeated, AcksRise, IsHolding, IsSure, IsUnsure, Lands, Plays}
 use Rattle.voice_store.specs.Shown.{FaultsCover, Stands}
+use Rattle.voice_store.specs.Turns.{ShortTurns}
 use Rattle.voice_store.specs.Facts.{Adds, AddsLanding, entry_of, landing_at}
 
 pub risen_later : (old mid new : ℕ) → old ≤ mid → HasRisen mid new → HasRisen old new
@@ -111,10 +112,12 @@ module _ (first : State) (t0 : ℕ) (disk : Told) (s : Inside) (history : Vec En
 pub stood_reserved : (first : State) (t0 : ℕ) (disk : Told) (s s' : Inside) → s' ≡ record s { history = s'.history } → s'.history.items ≡ s.history.items → Stood first t0 disk s → Stood first t0 disk s'
 stood_reserved first t0 disk s s' rest items stood = subst (λ (x : Inside). Stood first t0 disk x) (sym rest) (stood_roomy first t0 disk s s'.history items stood)
 
-pub stands_reserved : (first : State) (origin disk : Told) (s s' : Inside) → s' ≡ record s { history = s'.history } → s'.history.items ≡ s.history.items → Stands first origin disk s → Stands first origin disk s'
-stands_reserved first origin disk s s' rest items stands = record {
+pub stands_reserved : (first : State) (origin disk : Told) (s s' : Inside) (wanted : Bool) → s' ≡ record s { history = s'.history } → s'.history.items ≡ s.history.items → Stands first origin disk s wanted → Stands first origin disk s' wanted
+stands_reserved first origin disk s s' wanted rest items stands = record {
   stood = stood_reserved first (origin.calls + 1) disk s s' rest items stands.stood;
   faults = subst (λ l. FaultsCover origin.faults l disk.faults) (sym items) stands.faults;
   size = stands.size;
   honest = stands.honest;
+  turns = λ none. subst (λ t. ShortTurns first t (origin.calls + 5) s'.history.items disk.calls) (sym (ap (λ (x : Inside). tapes_of x) rest))
+      (subst (λ l. ShortTurns first (tapes_of s) (origin.calls + 5) l disk.calls) (sym items) (stands.turns none));
 }

@@ -37,3 +37,5 @@ pub mod Turned
 pub mod Windowed
 pub mod Written
 pub mod Heard
+pub mod Turns
+pub mod WindowReads

@@ -1,5 +1,5 @@
 -- A lease that is taken back without a Feed.
-use Rattle.std.proofs.Common.{◌≡◌, ◌+◌, ℕ, List, Some, length, refl, sym, ◌∙◌, ap, subst}
+use Rattle.std.proofs.Common.{◌≡◌, ◌+◌, ℕ, Bool, List, Some, length, refl, sym, ◌∙◌, ap, subst}
 use Rattle.voice_outside.specs.Disk.{Told}
 use Rattle.voice_model.specs.State.{State, lane_at}
 use Rattle.running_tables.specs.Running.{Runs}
@@ -14,7 +14,9 @@ use Rattle.playing.specs.declared.blocks.Block.{Block}
 use Rattle.voice_store.specs.declared.inside.Inside.{Inside}
 use Rattle.voice_model.specs.declared.calls.Entry.{Entry}
 use Rattle.voice_store.specs.Shown.{FaultsCover, Stands}
-use Rattle.voice_store.specs.Stood.{last_of, Stood}
+use Rattle.voice_store.specs.Turns.{ShortTurns}
+use Rattle.std.specs.Arc.{arc_value}
+use Rattle.voice_store.specs.Stood.{tapes_of, Stood}
 use Rattle.voice_store.proofs.Served.{stood_refilled}
 
 -- the jobs stay, and frames change in what one lane reads
@@ -36,10 +38,12 @@ stood_back first t0 disk s lanes l queues frames stood =
     })
     (λ h bytes there was. frames.bytes bytes was)
 
-pub stands_back : (first : State) (origin disk : Told) (s s' : Inside) → s'.history.items ≡ s.history.items → ((t0 : ℕ) → Stood first t0 disk s → Stood first t0 disk s') → Stands first origin disk s → Stands first origin disk s'
-stands_back first origin disk s s' items stood stands = record {
+pub stands_back : (first : State) (origin disk : Told) (s s' : Inside) (wanted : Bool) → s'.history.items ≡ s.history.items → s'.tapes ≡ s.tapes → ((t0 : ℕ) → Stood first t0 disk s → Stood first t0 disk s') → Stands first origin disk s wanted → Stands first origin disk s' wanted
+stands_back first origin disk s s' wanted items tapes stood stands = record {
   stood = stood (origin.calls + 1) stands.stood;
   faults = subst (λ (l : List Entry). FaultsCover origin.faults l disk.faults) (sym items) stands.faults;
   size = stands.size;
   honest = stands.honest;
+  turns = λ none. subst (λ t. ShortTurns first t (origin.calls + 5) s'.history.items disk.calls) (sym (ap arc_value tapes))
+      (subst (λ (l : List Entry). ShortTurns first (tapes_of s) (origin.calls + 5) l disk.calls) (sym items) (stands.turns none));
 }

@@ -327,7 +327,7 @@ known_lane s tapes lane back free = by (split lane s.shape.lanes)
         no_some x e = cc
 
 -- the jobs of a lane once a window is home
-home_jobs : (s : State) (lane : ℕ) (back : Option ℕ) → lane < length s.lanes → (lane_at (brought_back s lane back) lane).jobs ≡ heard_of back (lane_at s lane).jobs
+pub home_jobs : (s : State) (lane : ℕ) (back : Option ℕ) → lane < length s.lanes → (lane_at (brought_back s lane back) lane).jobs ≡ heard_of back (lane_at s lane).jobs
 home_jobs s lane None low = refl
 home_jobs s lane (Some m) low = ap (λ (l : LaneState). l.jobs) (get_or-set_same s.lanes lane (with_jobs (lane_at s lane) (heard_more m (lane_at s lane).jobs)) quiet_lane low)
 

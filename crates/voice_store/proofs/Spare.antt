@@ -1,5 +1,5 @@
 -- What the tables of a store tell of its state: the free blocks, whether a change is in doubt or not, and all else where none is.
-use Rattle.std.proofs.Common.{◌≡◌, ◌⊎◌, inl, inr, ℕ, ◌==◌, Bool, true, false, cond, List, [], ◌∷◌, ◌++◌, map, length, None, refl, sym, ◌∙◌, ap, subst}
+use Rattle.std.proofs.Common.{◌≡◌, ◌⊎◌, inl, inr, ℕ, ◌+◌, ◌==◌, Bool, true, false, cond, List, [], ◌∷◌, ◌++◌, map, length, None, refl, sym, ◌∙◌, ap, subst}
 use Rattle.std.proofs.lemmas.List.{map-append}
 use Rattle.voice_units.specs.declared.shapes.Shape.{Shape}
 use Rattle.voice_units.specs.declared.pieces.Piece.{Piece}
@@ -9,7 +9,7 @@ use Rattle.voice_outside.specs.Disk.{Told}
 use Rattle.voice_model.specs.Samples.{Tagged, spot_of}
 use Rattle.voice_model.specs.State.{State, Durable, Live, Effect}
 use Rattle.voice_model.specs.State.Effect.{Recorded, Edited, Retained, Forgotten, Counted, Swept, Advanced}
-use Rattle.voice_model.specs.Room.{free, held_by_doubt, samples_brought}
+use Rattle.voice_model.specs.Room.{free, used, held_by_doubt, samples_brought}
 use Rattle.voice_model.specs.Changes.{changed, with_rope}
 use Rattle.voice_model.specs.Base.{change_of}
 use Rattle.voice_model.specs.Replay.{durable_by, live_by}
@@ -17,7 +17,7 @@ use Rattle.voice_model.specs.declared.changes.Change.TheVariants as kinds
 use Rattle.voice_blocks.specs.Holders.{Holders, open_in}
 use Rattle.rope_table.specs.Table.{pairs_in}
 use Rattle.running_tables.specs.Running.{Runs, RunsState, held_in, takings_in, pledged_in}
-use Rattle.running_tables.proofs.Free.{counts_free}
+use Rattle.running_tables.proofs.Free.{counts_free, counts_used}
 use Rattle.running_tables.proofs.Dropped.{repledged}
 use Rattle.next_ropes.specs.declared.NextRope.{NextRope}
 use Rattle.next_ropes.specs.Ready.{IsReady, next_change, new_samples}
@@ -118,15 +118,12 @@ module _ (first : State) (t0 : ℕ) (disk : Told) (s : Inside) (stood : Stood fi
       repledged (held_in last) pieces (pledged_in last) (takings_in last) s.parts stood.b (alike stood.b.shape.block)
       (subst (λ l. Runs l pieces (takings_in last) s.parts stood.b) holding_now.passages (subst (λ l. Runs stood.held pieces l s.parts stood.b) holding_now.recordings runs))
 
-  free_by : RunsState s.parts stood.b last → free last ≡ open_in holders
-  free_by runs = sym (counts_free s.parts stood.b last stood.fill stood.upright.fills.spots stood.upright.fills.kept runs)
-
   -- nothing is pledged where the doubt brings no samples
-  none_pledged : held_by_doubt last.doubt ≡ [] → Runs stood.held [] stood.takings s.parts stood.b → free last ≡ open_in holders
-  none_pledged none runs = free_by (runs_state [] (λ block pair. ap (λ (ts : List Tagged). has_pair (pairs_in block (pieces_of (map spot_of ts) ∷ [])) pair) none) runs)
+  none_pledged : held_by_doubt last.doubt ≡ [] → Runs stood.held [] stood.takings s.parts stood.b → RunsState s.parts stood.b last
+  none_pledged none runs = runs_state [] (λ block pair. ap (λ (ts : List Tagged). has_pair (pairs_in block (pieces_of (map spot_of ts) ∷ [])) pair) none) runs
 
   -- a rope holds its blocks
-  with_rope_ready : (unsure : IsUnsure stood.fill stood.held stood.takings s stood.b stood.after last) (rope : NextRope) → IsReady stood.held stood.takings s.parts stood.b rope unsure.change → free last ≡ open_in holders
+  with_rope_ready : (unsure : IsUnsure stood.fill stood.held stood.takings s stood.b stood.after last) (rope : NextRope) → IsReady stood.held stood.takings s.parts stood.b rope unsure.change → RunsState s.parts stood.b last
   with_rope_ready unsure rope ready =
       let effect = unsure.pending.effect in
       let b = stood.b in
@@ -136,28 +133,44 @@ module _ (first : State) (t0 : ℕ) (disk : Told) (s : Inside) (stood : Stood fi
       brought_alike stood.fill unsure.brings_it.spots b.kept last.form b.form unsure.addresses last.kept rope.id (new_samples unsure.change) effect kind
       (ap (durable_by stood.fill) (sym after) ∙ unsure.brings_it.kept) in
       let same : map spot_of (held_by_doubt last.doubt) ≡ new_samples unsure.change = ap (λ o. map spot_of (held_by_doubt o)) unsure.in_state ∙ sym samples in
-      free_by (runs_state (rope.pieces ∷ []) (λ block pair. ap (λ (l : List Piece). has_pair (pairs_in block (l ∷ [])) pair) (ap pieces_of same ∙ sym ready.pieces)) ready.runs)
+      runs_state (rope.pieces ∷ []) (λ block pair. ap (λ (l : List Piece). has_pair (pairs_in block (l ∷ [])) pair) (ap pieces_of same ∙ sym ready.pieces)) ready.runs
 
   -- any other change holds none
-  with_other_ready : (unsure : IsUnsure stood.fill stood.held stood.takings s stood.b stood.after last) (other : ReadyChange) → IsOther stood.held stood.takings s.parts stood.b other unsure.change → free last ≡ open_in holders
+  with_other_ready : (unsure : IsUnsure stood.fill stood.held stood.takings s stood.b stood.after last) (other : ReadyChange) → IsOther stood.held stood.takings s.parts stood.b other unsure.change → RunsState s.parts stood.b last
   with_other_ready unsure other ready =
       let b = stood.b in
       let none : brings_rope (change_of b.form unsure.addresses unsure.pending.effect) ≡ false = ap brings_rope (sym unsure.spelled) ∙ (plain s.parts.interests.spare b.kept other.act unsure.change ready.ready.does).no_rope in
       none_pledged (ap held_by_doubt unsure.in_state ∙ brings_none b.form unsure.addresses unsure.pending.effect none) ready.runs
 
-  when_unsure : IsUnsure stood.fill stood.held stood.takings s stood.b stood.after last → free last ≡ open_in holders
+  when_unsure : IsUnsure stood.fill stood.held stood.takings s stood.b stood.after last → RunsState s.parts stood.b last
   when_unsure unsure = by unsure.doubted.next unsure.ready
     where
-      by : (next : NextChange) → IsNext stood.held stood.takings s.parts stood.b next unsure.change → free last ≡ open_in holders
+      by : (next : NextChange) → IsNext stood.held stood.takings s.parts stood.b next unsure.change → RunsState s.parts stood.b last
       by (Rope rope) ready = with_rope_ready unsure rope ready
       by (Other other) ready = with_other_ready unsure other ready
 
-  pub free_is_open : free last ≡ open_in holders
-  free_is_open = by stood.tables
+  -- the tables show the state, whether a change is in doubt or not
+  pub runs_now : RunsState s.parts stood.b last
+  runs_now = by stood.tables
     where
-      by : IsSure stood.held stood.takings s stood.b stood.after last ⊎ IsUnsure stood.fill stood.held stood.takings s stood.b stood.after last → free last ≡ open_in holders
+      by : IsSure stood.held stood.takings s stood.b stood.after last ⊎ IsUnsure stood.fill stood.held stood.takings s stood.b stood.after last → RunsState s.parts stood.b last
       by (inl sure) = none_pledged (ap held_by_doubt sure.in_state) sure.tables
       by (inr unsure) = when_unsure unsure
+
+  pub free_is_open : free last ≡ open_in holders
+  free_is_open = sym (counts_free s.parts stood.b last stood.fill stood.upright.fills.spots stood.upright.fills.kept runs_now)
+
+  -- what is in use, and what nobody holds, are all blocks
+  pub used_or_open : open_in holders + used last ≡ last.shape.blocks
+  used_or_open = counts_used s.parts stood.b last stood.fill stood.upright.fills.spots stood.upright.fills.kept runs_now
+
+  -- the live ropes are those of the tables, their samples filled in
+  pub filled_ropes : last.kept.ropes ≡ map (live_by stood.fill) stood.b.kept.ropes
+  filled_ropes = ap (λ (d : Durable Tagged). d.ropes) (sym stood.upright.fills.kept)
+
+  -- the tables are of the journal's shape
+  pub shape_now : stood.b.shape ≡ s.journal.shape
+  shape_now = ap (λ (d : Durable Tagged). d.shape) stood.upright.fills.kept ∙ stood.upright.seated.shape
 
   -- ---- where nothing is in doubt
 

@@ -95,7 +95,7 @@ bytes_of_spots : (fill : Spot → Tagged) (block : ℕ) → 0 < block → (ss : 
 bytes_of_spots fill block some [] = refl
 bytes_of_spots fill block some (x ∷ ss) = ap (λ v. v ∷ map (byte_in (bytes_by fill block) block) ss) (byte_of fill block some x) ∙ ap (λ l. (fill x).byte ∷ l) (bytes_of_spots fill block some ss)
 
-slice_filled : (fill : Spot → Tagged) (ss : List Spot) (at n : ℕ) → map fill (slice ss at n) ≡ slice (map fill ss) at n
+pub slice_filled : (fill : Spot → Tagged) (ss : List Spot) (at n : ℕ) → map fill (slice ss at n) ≡ slice (map fill ss) at n
 slice_filled fill ss at n = sym (take-map fill n (drop at ss)) ∙ ap (take n) (sym (drop-map fill at ss))
 
 -- ---- the window of a reply

@@ -10,5 +10,6 @@ pub mod Shown
 pub mod Spare
 pub mod Stood
 pub mod Trying
+pub mod Turns
 pub mod Ways
 pub mod Hearing

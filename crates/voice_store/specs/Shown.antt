@@ -1,42 +1,46 @@
 -- What contracts see of a store.
---     Shown      its disk, the disk as it was opened, and what it keeps besides, which is named in this crate alone
+--     Shown      its disk, the disk as it was opened, what it keeps besides, which is named in this crate alone, and whether memory was wanted since it was opened
 --     history_of s, tapes_in s, block_of s      its history, its tapes, the length of a block
 --     pool_of s, lanes_in s      which pool its leases are of;  how many lanes it has
 --     HasRoomFor n s      the history takes so many entries more without memory
 --     FaultsCover low history high      there are at most so many entries of faults as faults rose, unless their count is at its end
---     Stands first origin disk inside      the store was opened in this state, and all its history is legal from it and held
---     IsWhole origin disk inside      the store stands for some history
+--     Stands first origin disk inside wanted      the store was opened in this state, and all its history is legal from it and held; and its entries came in short turns, unless memory was wanted
+--     IsWhole origin disk inside wanted      the store stands for some history
 --     Keeps told first s      the same, of what contracts see
 --     state_of first s      the state after the history
-use Rattle.std.specs.Prelude.{◌≡◌, ℕ, ◌+◌, ◌-◌, ◌^◌, ◌<◌, ◌≤◌, List, count_by, vec_len, vec_capacity}
+use Rattle.std.specs.Prelude.{◌≡◌, ℕ, ◌+◌, ◌-◌, ◌^◌, ◌<◌, ◌≤◌, Bool, false, List, count_by, vec_len, vec_capacity}
 use Rattle.std.specs.Arc.{arc_value}
 use Rattle.voice_outside.specs.Disk.{Told}
 use Rattle.frame_pool.specs.Pool.{Identity}
 use Rattle.voice_model.specs.State.{State}
 use Rattle.voice_model.specs.declared.calls.Entry.{Entry}
-use Rattle.voice_store.specs.Stood.{Stood, is_fault, last_state}
+use Rattle.voice_store.specs.Stood.{Stood, is_fault, last_state, tapes_of}
+use Rattle.voice_store.specs.Turns.{ShortTurns}
 use Rattle.voice_store.specs.declared.inside.Inside.{Inside}
 
 pub record Shown (D : Type 0) : Type 0 where
   pub disk : D
   pub origin : D
   pub inside : Inside
+  pub wanted : Bool
 
 -- there are at most so many entries of faults as faults rose, unless their count is at its end
 abbrev pub FaultsCover : ℕ → List Entry → ℕ → Type 0
 FaultsCover low history high = high < 2 ^ 64 - 1 → low + count_by is_fault history ≤ high
 
 -- the store was opened in this state, its history is legal from it, on a disk that isn't honest but for the talk and peaks that were read off it, and what a crash may leave since an entry is that entry's state or a later one
-pub record Stands (first : State) (origin disk : Told) (inside : Inside) : Type 0 where
+pub record Stands (first : State) (origin disk : Told) (inside : Inside) (wanted : Bool) : Type 0 where
   pub stood : Stood first (origin.calls + 1) disk inside
   pub faults : FaultsCover origin.faults inside.history.items disk.faults
   pub size : disk.size ≡ origin.size
   pub honest : disk.honest ≡ origin.honest
+  -- each entry came within the device calls that it may take, while memory was never wanted; opening takes five at most
+  pub turns : wanted ≡ false → ShortTurns first (tapes_of inside) (origin.calls + 5) inside.history.items disk.calls
 
 -- the store stands for some history
-pub record IsWhole (origin disk : Told) (inside : Inside) : Type 0 where
+pub record IsWhole (origin disk : Told) (inside : Inside) (wanted : Bool) : Type 0 where
   pub first : State
-  pub stands : Stands first origin disk inside
+  pub stands : Stands first origin disk inside wanted
 
 module _ {D : Type 0} where
   abbrev pub history_of : Shown D → List Entry
@@ -63,7 +67,7 @@ module _ {D : Type 0} where
 
   -- the store was opened in this state, and all its history is legal from it and held
   abbrev pub Keeps : (D → Told) → State → Shown D → Type 0
-  Keeps told first s = Stands first (told s.origin) (told s.disk) s.inside
+  Keeps told first s = Stands first (told s.origin) (told s.disk) s.inside s.wanted
 
   -- the state after the history
   abbrev pub state_of : State → Shown D → State

@@ -12,6 +12,7 @@ ghost use Rattle.voice_store.specs.Spare.{FitsBehindOthers};
 ghost use Rattle.voice_store.specs.Stood.{Stood, last_of, tapes_of};
 ghost use Rattle.listening.specs.Looks.{Looked};
 ghost use Rattle.voice_store.specs.DeviceCalls.{change_calls, landing_calls, most_calls};
+ghost use Rattle.voice_store.specs.Turns.{AddsLandingAt, AddsShortly};
 ghost use Rattle.voice_store.specs.Facts.{Adds, AddsLanding, Goes, GoesOn, HasRopes, IsFault, Stays, TakesAreIn, entry_of, hears, only_tells, most_reads};
 ghost use Rattle.built_calls.specs.Built.{is_built};
 
@@ -59,7 +60,8 @@ impl Inside {
         ensures cause { result ≡ false → HasRisen (D.told disk.old).faults (D.told disk.new).faults }
         ensures sure { result ≡ true → self.new.doubt ≡ None }
         ensures unsure { result ≡ false → (first : State) (t0 : ℕ) → Stood first t0 (D.told disk.old) self.old → IsTrue (is_some (last_of first self.new).doubt) }
-        ensures history { AddsLanding self.old.history.items self.new.history.items }
+        ensures failed { result ≡ false → self.new.history.items ≡ self.old.history.items }
+        ensures history { AddsLandingAt (D.told disk.new).calls self.old.history.items self.new.history.items }
         ensures still { self.old.doubt ≡ None → (disk.new ≡ disk.old) × (self.new ≡ self.old) }
         ensures room { vec_len self.new.history < vec_capacity self.new.history }
         ensures tapes { self.new.tapes ≡ self.old.tapes }
@@ -134,6 +136,7 @@ impl Inside {
         ensures cause { IfOk result (λ reply. IsFault reply → HasRisen (D.told disk.old).faults (D.told disk.new).faults) }
         ensures entry { IfOk result (λ reply. Adds caller call reply (D.told disk.new).calls self.old.history.items self.new.history.items) }
         ensures err { OnErr result (AddsLanding self.old.history.items self.new.history.items) }
+        ensures turns { (first : State) (t0 : ℕ) → Stood first t0 (D.told disk.old) self.old → IfOk result (λ reply. AddsShortly (last_of first self.old) (tapes_of self.old) (D.told disk.old).calls caller call reply (D.told disk.new).calls self.old.history.items self.new.history.items) }
         ensures few { (first : State) (t0 : ℕ) → Stood first t0 (D.told disk.old) self.old → OnErr result ((D.told disk.new).calls ≤ (D.told disk.old).calls + landing_calls (last_of first self.old)) }
         ensures still { self.old.doubt ≡ None → OnErr result ((disk.new ≡ disk.old) × (self.new.history.items ≡ self.old.history.items)) }
         ensures tapes { self.new.tapes ≡ self.old.tapes }
@@ -161,6 +164,7 @@ impl Inside {
         requires range { InRange call }
         ensures entry { IfOk result (λ reply. Adds caller call reply (D.told disk.new).calls self.old.history.items self.new.history.items) }
         ensures err { OnErr result (AddsLanding self.old.history.items self.new.history.items) }
+        ensures turns { (first : State) (t0 : ℕ) → Stood first t0 (D.told disk.old) self.old → IfOk result (λ reply. AddsShortly (last_of first self.old) (tapes_of self.old) (D.told disk.old).calls caller call reply (D.told disk.new).calls self.old.history.items self.new.history.items) }
         ensures few { (first : State) (t0 : ℕ) → Stood first t0 (D.told disk.old) self.old → OnErr result ((D.told disk.new).calls ≤ (D.told disk.old).calls + (landing_calls (last_of first self.old) + most_reads (last_of first self.old) call)) }
         ensures still { self.old.doubt ≡ None → OnErr result ((self.new.history.items ≡ self.old.history.items) × (hears call ≡ false → disk.new ≡ disk.old)) }
         ensures looks { IsTrue (hears call) → (first : State) (t0 : ℕ) → Stood first t0 (D.told disk.old) self.old → Looked (most_reads (last_of first self.old) call) (D.told disk.old) (D.told disk.new) }

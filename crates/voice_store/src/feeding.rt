@@ -1,6 +1,6 @@
 //! Feed: the next window of a lane's first job, or the job's end.
 
-ghost use Rattle.std.specs.Prelude.{◌≡◌, ◌≢◌, ◌⊎◌, ◌<◌, ◌≤◌, ◌++◌, ◌∷◌, [], ℕ, None, Some, Ok, true, false, length, IsTrue, IfOk, OnErr, vec_len, vec_capacity, if◌then◌else◌};
+ghost use Rattle.std.specs.Prelude.{◌≡◌, ◌≢◌, ◌⊎◌, ◌+◌, ◌<◌, ◌≤◌, ◌++◌, ◌∷◌, [], ℕ, None, Some, Ok, true, false, length, IsTrue, IfOk, OnErr, vec_len, vec_capacity, if◌then◌else◌};
 ghost use Rattle.voice_outside.specs.Counters.{HasRisen};
 ghost use Rattle.voice_model.specs.State.{State};
 ghost use Rattle.voice_model.specs.declared.calls.Why.{Why};
@@ -13,6 +13,7 @@ ghost use Rattle.lane_calls.specs.Answers.{IsHandedOut, HasStopped};
 ghost use Rattle.voice_store.specs.Feeding.{told, HasSamples};
 ghost use Rattle.voice_store.specs.Stood.{Stood, last_of};
 ghost use Rattle.voice_store.specs.Facts.{IsFault, entry_of};
+ghost use Rattle.voice_store.specs.Turns.{window_blocks};
 
 use crate::entering::enter;
 use crate::inside::Inside;
@@ -92,6 +93,7 @@ impl Inside {
         ensures err { OnErr result (self.new.history.items ≡ self.old.history.items) }
         ensures cause { IfOk result (λ fed. IsFault (told fed) → HasRisen (D.told disk.old).faults (D.told disk.new).faults) }
         ensures looks { Looked 4 (D.told disk.old) (D.told disk.new) }
+        ensures calls { (first : State) (t0 : ℕ) → Stood first t0 (D.told disk.old) self.old → (D.told disk.new).calls ≤ (D.told disk.old).calls + window_blocks (last_of first self.old) lane None }
         ensures samples { IsTrue (D.told disk.old).honest → (first : State) (t0 : ℕ) → Stood first t0 (D.told disk.old) self.old → IfOk result (HasSamples (last_of first self.old) lane) }
         ensures fresh { IfOk result (IsHandedOut self.old.lanes.frames.keeper.pool lane) }
         ensures tapes { self.new.tapes ≡ self.old.tapes }
@@ -190,6 +192,7 @@ impl Inside {
         ensures unrefused { IfOk result (λ fed. (reason : Why) → fed ≢ Fed.Refused reason) }
         ensures cause { IfOk result (λ fed. IsFault (told fed) → HasRisen (D.told disk.old).faults (D.told disk.new).faults) }
         ensures looks { Looked 4 (D.told disk.old) (D.told disk.new) }
+        ensures calls { (first : State) (t0 : ℕ) → Stood first t0 (D.told disk.old) self.old → (D.told disk.new).calls ≤ (D.told disk.old).calls + window_blocks (last_of first self.old) lease.old.lane (Some heard) }
         ensures samples { IsTrue (D.told disk.old).honest → (first : State) (t0 : ℕ) → Stood first t0 (D.told disk.old) self.old → IfOk result (HasSamples (last_of first self.old) lease.old.lane) }
         ensures fresh { IfOk result (IsHandedOut self.old.lanes.frames.keeper.pool lease.old.lane) }
         ensures tapes { self.new.tapes ≡ self.old.tapes }

@@ -15,7 +15,8 @@ ghost use Rattle.voice_model.specs.Step.{landed};
 ghost use Rattle.voice_store.specs.Stood.{Stood, in_form, last_of};
 ghost use Rattle.voice_store.specs.Trying.{IsReadyIn};
 ghost use Rattle.voice_store.specs.DeviceCalls.{landing_calls};
-ghost use Rattle.voice_store.specs.Facts.{AddsLanding, Goes};
+ghost use Rattle.voice_store.specs.Facts.{Goes};
+ghost use Rattle.voice_store.specs.Turns.{AddsLandingAt};
 
 use crate::entering::enter;
 use crate::inside::{Doubted, Inside};
@@ -51,7 +52,7 @@ impl Inside {
         ensures cause { result ≡ false → HasRisen (D.told disk.old).faults (D.told disk.new).faults }
         ensures sure { result ≡ true → self.new.doubt ≡ None }
         ensures failed { result ≡ false → self.new.history.items ≡ self.old.history.items }
-        ensures history { AddsLanding self.old.history.items self.new.history.items }
+        ensures history { AddsLandingAt (D.told disk.new).calls self.old.history.items self.new.history.items }
         ensures len { vec_len self.new.history ≤ vec_len self.old.history + 1 }
         ensures capacity { vec_capacity self.old.history ≤ vec_capacity self.new.history }
         ensures tapes { self.new.tapes ≡ self.old.tapes }

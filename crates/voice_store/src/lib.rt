@@ -21,4 +21,5 @@ mod ways;
 pub use inside::{Doubted, Inside};
 pub use lane_calls::Fed;
 pub use store::Store;
+pub use tallies::Tally;
 pub use voice_journal::OpenError;

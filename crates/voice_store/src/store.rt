@@ -1,6 +1,6 @@
 //! The store.
 
-ghost use Rattle.std.specs.Prelude.{◌≡◌, ◌≢◌, ◌<◌, ◌≤◌, ◌+◌, ◌-◌, ◌⊎◌, ◌++◌, ◌∷◌, ℕ, [], Some, None, true, false, IsTrue, IsOk, IfOk, IfErr, OnOk, OnErr, if◌then◌else◌};
+ghost use Rattle.std.specs.Prelude.{◌≡◌, ◌≢◌, ◌<◌, ◌≤◌, ◌+◌, ◌-◌, ◌⊎◌, ◌++◌, ◌∷◌, ℕ, [], Some, None, true, false, IsTrue, IsOk, IfOk, IfErr, OnOk, OnErr, length, if◌then◌else◌};
 ghost use Rattle.std.specs.Arc.{arc_value};
 ghost use Rattle.voice_outside.specs.Counters.{HasRisen};
 ghost use Rattle.voice_outside.specs.Disk.{MakesAtMost, Now};
@@ -8,11 +8,12 @@ ghost use Rattle.voice_journal.specs.Readings.{extent};
 ghost use Rattle.voice_journal.specs.Looks.{Since};
 ghost use Rattle.voice_journal.specs.Formatted.{IsFormatted, SameButHeads};
 ghost use Rattle.voice_model.specs.State.{State, formatted};
-ghost use Rattle.voice_model.specs.Room.{free};
+ghost use Rattle.voice_model.specs.Room.{free, used};
 ghost use Rattle.voice_model.specs.Valid.{InRange};
 ghost use Rattle.voice_model.specs.declared.calls.Why.{Why};
 ghost use Rattle.voice_model.specs.Image.{Reading, reading, opened_from};
 ghost use Rattle.frame_pool.specs.Pool.{spent};
+ghost use Rattle.tallies.specs.Tallies.{samples_of};
 ghost use Rattle.lane_calls.specs.Answers.{IsHandedOut, HasStopped};
 ghost use Rattle.voice_store.specs.Feeding.{told, HasSamples};
 ghost use Rattle.voice_store.specs.Shown.{Keeps, HasRoomFor, history_of, tapes_in, pool_of, lanes_in, state_of};
@@ -21,6 +22,7 @@ ghost use Rattle.listening.specs.Looks.{OnlyLooked, Looked};
 ghost use Rattle.voice_store.specs.Facts.{entry_of, Adds, AddsLanding, Goes, GoesOn, IsFault, TakesAreIn, HasRopes, hears, only_tells, most_reads};
 ghost use Rattle.voice_store.specs.DeviceCalls.{landing_calls, most_calls};
 ghost use Rattle.voice_store.specs.Spare.{FitsBehindOthers};
+ghost use Rattle.voice_store.specs.Turns.{AddsShortly, window_blocks};
 ghost use Rattle.row_calls.specs.Asked.{takes_no_memory};
 ghost use Rattle.built_calls.specs.Built.{is_built};
 
@@ -33,17 +35,19 @@ use std::alloc::Global;
 use std::marker::Model;
 use std::snapshot::Snapshot;
 use std::sync::Arc;
+use tallies::{Tally, tallied};
 use voice_journal::{Journal, OpenError};
 use voice_model::{Call, Entry, Reply, Tapes};
 use voice_outside::Disk;
 use voice_units::{Failed, Lane, NoMemory, Shape};
 
-/// The voice manager's store over a disk: the calls of several callers, one at a time, and the history of them. Contracts see the disk, the disk as it was opened, the tapes and the history; the state is that of the history, from what the disk's bytes were as it was opened.
+/// The voice manager's store over a disk: the calls of several callers, one at a time, and the history of them. Contracts see the disk, the disk as it was opened, the tapes, the history, and whether memory was wanted; the state is that of the history, from what the disk's bytes were as it was opened.
 #[derive(Drop)]
 pub struct Store<D: Disk> {
     disk: D,
     origin: Snapshot<D>,
     inside: Inside,
+    wanted: bool,
 }
 
 impl<D: Disk> Model for Store<D> {
@@ -51,9 +55,9 @@ impl<D: Disk> Model for Store<D> {
 
     ghost Value = { Shown D };
 
-    ghost view = { λ s. record { disk = s.disk; origin = s.origin.value; inside = s.inside } };
+    ghost view = { λ s. record { disk = s.disk; origin = s.origin.value; inside = s.inside; wanted = s.wanted } };
 
-    ghost invariant = { λ s. IsWhole (D.told s.origin.value) (D.told s.disk) s.inside };
+    ghost invariant = { λ s. IsWhole (D.told s.origin.value) (D.told s.disk) s.inside s.wanted };
 }
 
 impl<D: Disk> Store<D> {
@@ -76,7 +80,7 @@ impl<D: Disk> Store<D> {
         mut disk: D,
         tapes: Arc<Tapes, Global>,
     ) -> Result<Store<D>, (OpenError, D)>
-        ensures ok { IfOk result (λ s. (s.origin ≡ disk) × (tapes_in s ≡ arc_value tapes) × (history_of s ≡ []) × Goes 5 (D.told disk) (D.told s.disk)) }
+        ensures ok { IfOk result (λ s. (s.origin ≡ disk) × (tapes_in s ≡ arc_value tapes) × (history_of s ≡ []) × Goes 5 (D.told disk) (D.told s.disk) × (s.wanted ≡ false)) }
         // The opened state is what the disk's bytes recover.
         ensures state { IfOk result (λ s. (first : State) × Keeps D.told first s × (IsTrue (D.told disk).honest → opened_from (D.told disk).bytes ≡ Some first)) }
         // From the first sync on, each crash leaves the bytes that were read.
@@ -92,6 +96,7 @@ impl<D: Disk> Store<D> {
                 disk,
                 origin,
                 inside,
+                wanted: false,
             }),
             Err(e) => Err((e, disk)),
         }
@@ -116,16 +121,23 @@ impl<D: Disk> Store<D> {
         ensures cause { IfOk result (λ reply. IsFault reply → HasRisen (D.told self.old.disk).faults (D.told self.new.disk).faults) }
         ensures goes { GoesOn (D.told self.old.disk) (D.told self.new.disk) }
         ensures calls { (first : State) → Keeps D.told first self.old → (D.told self.new.disk).calls ≤ (D.told self.old.disk).calls + most_calls (state_of first self.old) (tapes_in self.old) call }
+        // The entry comes within the device calls that its call may take, and a landing before it within its two.
+        ensures turns { (first : State) → Keeps D.told first self.old → IfOk result (λ reply. AddsShortly (state_of first self.old) (tapes_in self.old) (D.told self.old.disk).calls caller call reply (D.told self.new.disk).calls (history_of self.old) (history_of self.new)) }
         // A call for which there is no memory makes no device call but those of a landing, and reads.
         ensures few { (first : State) → Keeps D.told first self.old → OnErr result ((D.told self.new.disk).calls ≤ (D.told self.old.disk).calls + (landing_calls (state_of first self.old) + most_reads (state_of first self.old) call)) }
         ensures still { (first : State) → Keeps D.told first self.old → (state_of first self.old).doubt ≡ None → OnErr result ((history_of self.new ≡ history_of self.old) × (hears call ≡ false → self.new.disk ≡ self.old.disk)) }
         // A call that hears a rope changes no byte, whatever its answer.
         ensures looks { IsTrue (hears call) → IsTrue (D.told self.old.disk).honest → OnlyLooked (D.told self.old.disk) (D.told self.new.disk) }
+        // An answer leaves it as it was whether memory was wanted; want of memory is told from then on.
+        ensures wanted { OnOk result (self.new.wanted ≡ self.old.wanted) }
+        ensures want { OnErr result (self.new.wanted ≡ true) }
         ensures origin { self.new.origin ≡ self.old.origin }
         ensures tapes { tapes_in self.new ≡ tapes_in self.old }
         ensures pool { pool_of self.new ≡ pool_of self.old }
     {
-        self.inside.apply(&mut self.disk, caller, call)
+        let answer = self.inside.apply(&mut self.disk, caller, call);
+        self.wanted |= answer.is_err();
+        answer
     }
 
     /// Makes room for so many entries of the history; all else stays, whatever the answer.
@@ -134,7 +146,7 @@ impl<D: Disk> Store<D> {
         ensures spare { HasRoomFor n self.old → IsOk result }
         ensures history { history_of self.new ≡ history_of self.old }
         ensures state { (first : State) → Keeps D.told first self.old → Keeps D.told first self.new }
-        ensures rest { (self.new.disk ≡ self.old.disk) × (self.new.origin ≡ self.old.origin) × (tapes_in self.new ≡ tapes_in self.old) × (pool_of self.new ≡ pool_of self.old) }
+        ensures rest { (self.new.disk ≡ self.old.disk) × (self.new.origin ≡ self.old.origin) × (tapes_in self.new ≡ tapes_in self.old) × (pool_of self.new ≡ pool_of self.old) × (self.new.wanted ≡ self.old.wanted) }
     {
         self.inside.reserve(n)
     }
@@ -152,12 +164,21 @@ impl<D: Disk> Store<D> {
         ensures cause { IfOk result (λ fed. IsFault (told fed) → HasRisen (D.told self.old.disk).faults (D.told self.new.disk).faults) }
         // It reads at most four blocks, and changes no byte.
         ensures looks { Looked 4 (D.told self.old.disk) (D.told self.new.disk) }
+        // It reads each block of its window once at most.
+        ensures calls { (first : State) → Keeps D.told first self.old → (D.told self.new.disk).calls ≤ (D.told self.old.disk).calls + window_blocks (state_of first self.old) lane None }
+        ensures wanted { OnOk result (self.new.wanted ≡ self.old.wanted) }
+        ensures want { OnErr result (self.new.wanted ≡ true) }
         ensures origin { self.new.origin ≡ self.old.origin }
         ensures tapes { tapes_in self.new ≡ tapes_in self.old }
         ensures pool { pool_of self.new ≡ pool_of self.old }
     {
-        self.inside.reserve(1)?;
-        self.inside.feed(&mut self.disk, caller, lane)
+        if self.inside.reserve(1).is_err() {
+            self.wanted = true;
+            return Err(NoMemory);
+        }
+        let answer = self.inside.feed(&mut self.disk, caller, lane);
+        self.wanted |= answer.is_err();
+        answer
     }
 
     /// Brings for a caller the lease of a window back, of which so much was heard, and asks for the next window of its lane's first job, as `feed`. After `NoMemory` the lease may be taken back already, and can be brought back again; one that is not that of a window which is out is always answered so, with all as before.
@@ -177,12 +198,20 @@ impl<D: Disk> Store<D> {
         ensures back { IfOk result (λ fed. lease.new ≡ (if lease.old.taken then lease.old else spent lease.old)) }
         ensures cause { IfOk result (λ fed. IsFault (told fed) → HasRisen (D.told self.old.disk).faults (D.told self.new.disk).faults) }
         ensures looks { Looked 4 (D.told self.old.disk) (D.told self.new.disk) }
+        ensures calls { (first : State) → Keeps D.told first self.old → (D.told self.new.disk).calls ≤ (D.told self.old.disk).calls + window_blocks (state_of first self.old) lease.old.lane (Some heard) }
+        ensures wanted { OnOk result (self.new.wanted ≡ self.old.wanted) }
+        ensures want { OnErr result (self.new.wanted ≡ true) }
         ensures origin { self.new.origin ≡ self.old.origin }
         ensures tapes { tapes_in self.new ≡ tapes_in self.old }
         ensures pool { pool_of self.new ≡ pool_of self.old }
     {
-        self.inside.reserve(1)?;
-        self.inside.serve(&mut self.disk, caller, lease, heard)
+        if self.inside.reserve(1).is_err() {
+            self.wanted = true;
+            return Err(NoMemory);
+        }
+        let answer = self.inside.serve(&mut self.disk, caller, lease, heard);
+        self.wanted |= answer.is_err();
+        answer
     }
 
     /// Takes the lease of a window back without a Feed, so that its player hears it no longer. The window stays out, and nothing else changes; a lease that was taken back before stays as it is.
@@ -193,7 +222,7 @@ impl<D: Disk> Store<D> {
         ensures back { lease.old.lane < lanes_in self.old → lease.new ≡ (if lease.old.taken then lease.old else spent lease.old) }
         ensures history { history_of self.new ≡ history_of self.old }
         ensures state { (first : State) → Keeps D.told first self.old → Keeps D.told first self.new }
-        ensures rest { (self.new.disk ≡ self.old.disk) × (self.new.origin ≡ self.old.origin) × (tapes_in self.new ≡ tapes_in self.old) × (pool_of self.new ≡ pool_of self.old) }
+        ensures rest { (self.new.disk ≡ self.old.disk) × (self.new.origin ≡ self.old.origin) × (tapes_in self.new ≡ tapes_in self.old) × (pool_of self.new ≡ pool_of self.old) × (self.new.wanted ≡ self.old.wanted) }
     {
         self.inside.take_back(&self.disk, lease);
     }
@@ -203,6 +232,13 @@ impl<D: Disk> Store<D> {
         ensures { result.now ≡ history_of self.now }
     {
         &self.inside.history
+    }
+
+    /// Whether there was want of memory for a call, a Feed or a window that came back, since the store was opened. Without it each entry's moment lies at most the device calls that its call may take behind the one before it; the device calls of one that was not entered are counted nowhere.
+    pub fn wanted(&self) -> bool
+        ensures { result ≡ self.now.wanted }
+    {
+        self.wanted
     }
 
     /// How many lanes there are.
@@ -217,6 +253,15 @@ impl<D: Disk> Store<D> {
         ensures { (first : State) → Keeps D.told first self.now → result ≡ free (state_of first self.now) }
     {
         self.inside.parts.blocks.free()
+    }
+
+    /// How many ropes are live, how many samples they have in all, and how many blocks are used: by live ropes, by held passages, and by a change in doubt. It takes no memory and makes no device call, and goes over the live ropes.
+    pub fn tally(&self) -> Tally
+        ensures ropes { (first : State) → Keeps D.told first self.now → result.ropes ≡ length (state_of first self.now).kept.ropes }
+        ensures samples { (first : State) → Keeps D.told first self.now → result.samples ≡ samples_of (state_of first self.now).kept.ropes }
+        ensures blocks { (first : State) → Keeps D.told first self.now → result.blocks ≡ used (state_of first self.now) }
+    {
+        tallied(&self.inside.parts, &self.inside.journal.shape())
     }
 
     /// The shape of the disk.
@@ -244,6 +289,7 @@ impl<D: Disk> Store<D> {
             disk,
             origin: _,
             inside,
+            wanted: _,
         } = self;
         (disk, inside.history)
     }

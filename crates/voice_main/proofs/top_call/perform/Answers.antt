@@ -19,4 +19,4 @@ returns-clause-left g c =
     let shelf : Type 0 = HasRisen (g.K.Shelf.faults c.args.shelf.now) (g.K.Shelf.faults c.finish-status.new.shelf) in
     let sink : Type 0 = HasRisen (g.O.Sink.faults c.args.out.now) (g.O.Sink.faults c.finish-status.new.out) ⊎ HasRisen (g.O.Sink.empty_takes c.args.out.now) (g.O.Sink.empty_takes c.finish-status.new.out) in
     left_lent c.args.threads (arc_value c.args.scripted.now.tapes) c.args.scripted.now.script (g.K.Shelf.files c.args.shelf.now) (g.K.Shelf.files c.finish-status.new.shelf) (g.D.Disk.told c.args.disk) (g.D.Disk.told c.in-Ok.called.disk)
-    c.in-Ok.called.history.items c.deref.result.now c.in-Ok.called.heard.items c.deref-2.result.now shelf sink c.finish-status.result c.deref.ensures.value c.deref-2.ensures.value (c.in-Ok.ensures.finished fine) c.finish-status.ensures.which c.finish-status.ensures.files
+    c.in-Ok.called.history.items c.deref-2.result.now c.in-Ok.called.heard.items c.deref-3.result.now shelf sink c.finish-status.result c.deref-2.ensures.value c.deref-3.ensures.value (c.in-Ok.ensures.finished fine) c.finish-status.ensures.which c.finish-status.ensures.files

@@ -1,5 +1,10 @@
 use Rattle.std.proofs.Common.{ℕ, ◌+◌, ◌≤◌, List, ap, subst, ◌∙◌, arith}
-use Rattle.std.specs.Prelude.{OnErr}
+use Rattle.std.specs.Prelude.{Result, Ok, OnErr}
+use Rattle.voice_units.specs.declared.errors.NoMemory.{NoMemory}
+use Rattle.voice_model.specs.declared.calls.Call.TheVariants as calls
+use Rattle.voice_model.specs.declared.calls.Reply.{Reply}
+use Rattle.voice_store.specs.Hearing.{call_for}
+use Rattle.voice_store.proofs.Turns.{adds_at_once, adds_heard, items_from, adds_same}
 use Rattle.voice_model.specs.State.{State}
 use Rattle.voice_store.specs.declared.inside.Inside.{Inside}
 use Rattle.voice_store.specs.Stood.{last_of, tapes_of}
@@ -122,3 +127,56 @@ returns-in-Job-clause-stood g c = λ first t0 stood.
 pub returns-in-Stop-clause-stood : goal.returns-in-Stop-clause-stood
 returns-in-Stop-clause-stood g c = λ first t0 stood.
     c.stop.ensures.stood first t0 (stood_reserved first t0 (g.D.Disk.told c.args.disk.now) c.args.self.now c.reserve.new.self c.reserve.ensures.rest c.reserve.ensures.items stood)
+
+pub returns-in-Length-clause-turns : goal.returns-in-Length-clause-turns
+returns-in-Length-clause-turns g c = λ first t0 stood.
+    let s = c.args.self.now in
+    let now = (g.D.Disk.told c.args.disk.now).calls in
+    let one : Result Reply NoMemory = Ok c.tell_length.result in
+    adds_at_once (last_of first s) (tapes_of s) now c.args.caller c.args.call s.history.items c.tell_length.new.self.history.items one
+    (items_from c.args.caller c.args.call (calls.Length c.in-Length.rope) now s.history.items c.reserve.new.self.history.items c.tell_length.new.self.history.items one c.in-Length.ensures c.reserve.ensures.items c.tell_length.ensures.items)
+
+pub returns-in-Interest-clause-turns : goal.returns-in-Interest-clause-turns
+returns-in-Interest-clause-turns g c = λ first t0 stood.
+    let s = c.args.self.now in
+    let now = (g.D.Disk.told c.args.disk.now).calls in
+    let one : Result Reply NoMemory = Ok c.tell_interest.result in
+    adds_at_once (last_of first s) (tapes_of s) now c.args.caller c.args.call s.history.items c.tell_interest.new.self.history.items one
+    (items_from c.args.caller c.args.call (calls.Lookup c.in-Interest.class c.in-Interest.key) now s.history.items c.reserve.new.self.history.items c.tell_interest.new.self.history.items one c.in-Interest.ensures c.reserve.ensures.items c.tell_interest.ensures.items)
+
+pub returns-in-Stop-clause-turns : goal.returns-in-Stop-clause-turns
+returns-in-Stop-clause-turns g c = λ first t0 stood.
+    let s = c.args.self.now in
+    let now = (g.D.Disk.told c.args.disk.now).calls in
+    let one : Result Reply NoMemory = Ok c.stop.result in
+    adds_at_once (last_of first s) (tapes_of s) now c.args.caller c.args.call s.history.items c.stop.new.self.history.items one
+    (items_from c.args.caller c.args.call (calls.Stop c.in-Stop.lane) now s.history.items c.reserve.new.self.history.items c.stop.new.self.history.items one c.in-Stop.ensures c.reserve.ensures.items c.stop.ensures.items)
+
+pub returns-in-Job-clause-turns : goal.returns-in-Job-clause-turns
+returns-in-Job-clause-turns g c = λ first t0 stood.
+    let s = c.args.self.now in
+    let now = (g.D.Disk.told c.args.disk.now).calls in
+    adds_at_once (last_of first s) (tapes_of s) now c.args.caller c.args.call s.history.items c.play.new.self.history.items c.play.result
+    (items_from c.args.caller c.args.call (calls.Play c.in-Job.lane c.in-Job.rope c.in-Job.start c.in-Job.len) now s.history.items c.reserve.new.self.history.items c.play.new.self.history.items c.play.result
+    c.in-Job.ensures c.reserve.ensures.items c.play.ensures.items)
+
+pub returns-in-Sound-clause-turns : goal.returns-in-Sound-clause-turns
+returns-in-Sound-clause-turns g c = λ first t0 stood.
+    let s = c.args.self.now in
+    let t = c.reserve.new.self in
+    let old = g.D.Disk.told c.args.disk.now in
+    let new = g.D.Disk.told c.tell_sound.new.disk in
+    let looked = c.tell_sound.ensures.looked first t0 (stood_reserved first t0 old s t c.reserve.ensures.rest c.reserve.ensures.items stood) in
+    adds_heard (last_of first s) (last_of first t) (tapes_of s) old.calls c.args.caller c.args.call c.in-Sound.sound c.in-Sound.rope new.calls s.history.items c.tell_sound.new.self.history.items c.tell_sound.result
+    c.in-Sound.ensures (last_reserved first s t c.reserve.ensures.rest c.reserve.ensures.items) looked.calls
+    (items_from c.args.caller c.args.call (call_for c.in-Sound.sound c.in-Sound.rope) new.calls s.history.items t.history.items c.tell_sound.new.self.history.items c.tell_sound.result
+    c.in-Sound.ensures c.reserve.ensures.items c.tell_sound.ensures.items)
+
+pub returns-in-Change-clause-turns : goal.returns-in-Change-clause-turns
+returns-in-Change-clause-turns g c = λ first t0 stood.
+    let s = c.args.self.now in
+    let t = c.reserve.new.self in
+    let old = g.D.Disk.told c.args.disk.now in
+    adds_same (last_of first s) (last_of first t) (tapes_of s) (tapes_of t) old.calls c.args.caller c.args.call (g.D.Disk.told c.land_and_change.new.disk).calls s.history.items t.history.items c.land_and_change.new.self.history.items c.land_and_change.result
+    (last_reserved first s t c.reserve.ensures.rest c.reserve.ensures.items) (ap (λ (x : Inside). tapes_of x) c.reserve.ensures.rest) c.reserve.ensures.items
+    (c.land_and_change.ensures.turns first t0 (stood_reserved first t0 old s t c.reserve.ensures.rest c.reserve.ensures.items stood))

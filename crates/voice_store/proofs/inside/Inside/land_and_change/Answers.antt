@@ -10,6 +10,7 @@ use Rattle.voice_store.specs.declared.inside.Inside.{Inside}
 use Rattle.voice_store.proofs.Refused.{unlanded_stays}
 use Rattle.voice_store.proofs.Landed.{risen_later, adds_after, landing_same, if_ok, on_error}
 use Rattle.voice_store.proofs.Counted.{landed_within, unlanded_within}
+use Rattle.voice_store.proofs.Turns.{adds_unlanded, adds_landed, some_landing}
 use Rattle.voice_store.proofs.inside.Inside.land_and_change.Goals as goal
 
 pub change-requires-clause-stood : goal.change-requires-clause-stood
@@ -46,14 +47,14 @@ returns-clause-entry g c =
     let new = c.change.new.self.history.items in
     let ack = (g.D.Disk.told c.change.new.disk).calls in
     if_ok (λ (reply : Reply). new ≡ mid ++ entry_of c.args.caller c.args.call reply ack ∷ []) (λ (reply : Reply). Adds c.args.caller c.args.call reply ack old new)
-    (λ reply h. adds_after c.args.caller c.args.call reply ack old mid new c.land_first.ensures.history h) c.change.result c.change.ensures.items
+    (λ reply h. adds_after c.args.caller c.args.call reply ack old mid new (some_landing (g.D.Disk.told c.land_first.new.disk).calls old mid c.land_first.ensures.history) h) c.change.result c.change.ensures.items
 
 pub returns-clause-err : goal.returns-clause-err
 returns-clause-err g c =
     let old = c.args.self.now.history.items in
     let mid = c.land_first.new.self.history.items in
     let new = c.change.new.self.history.items in
-    on_error (new ≡ mid) (AddsLanding old new) (λ h. landing_same old mid new c.land_first.ensures.history h) c.change.result c.change.ensures.err
+    on_error (new ≡ mid) (AddsLanding old new) (λ h. landing_same old mid new (some_landing (g.D.Disk.told c.land_first.new.disk).calls old mid c.land_first.ensures.history) h) c.change.result c.change.ensures.err
 
 pub returns-clause-stood : goal.returns-clause-stood
 returns-clause-stood g c = λ first t0 stood. c.change.ensures.stood first t0 (c.land_first.ensures.stood first t0 stood)
@@ -71,3 +72,18 @@ pub returns-clause-spare : goal.returns-clause-spare
 returns-clause-spare g c = λ none first t0 stood takes fits.
     c.change.ensures.spare first t0 (c.land_first.ensures.stood first t0 stood) takes
     (subst (λ (s : Inside). FitsBehindOthers (last_of first s) (tapes_of s) c.args.call) (sym (c.land_first.ensures.still none).1) fits)
+
+pub returns-clause-turns : goal.returns-clause-turns
+returns-clause-turns g c = λ first t0 stood.
+    let s = c.args.self.now in
+    let t = c.land_first.new.self in
+    let mid = g.D.Disk.told c.land_first.new.disk in
+    let landed = c.land_first.ensures.stood first t0 stood in
+    adds_landed first t0 mid s t c.args.caller c.args.call (g.D.Disk.told c.args.disk.now).calls (g.D.Disk.told c.change.new.disk).calls c.change.new.self.history.items c.change.result c.requires.changing landed (c.if-not-land_first.ensures.sure refl)
+    c.land_first.ensures.tapes c.land_first.ensures.history (c.if-not-land_first.ensures.landed refl first t0 stood) (c.land_first.ensures.calls first t0 stood) (c.change.ensures.calls first t0 landed) c.change.ensures.items
+
+pub returns-then-not-land_first-clause-turns : goal.returns-then-not-land_first-clause-turns
+returns-then-not-land_first-clause-turns g c = λ first t0 stood.
+    let s = c.args.self.now in
+    adds_unlanded (last_of first s) (tapes_of s) (g.D.Disk.told c.args.disk.now).calls c.args.caller c.args.call c.note_fault.result (g.D.Disk.told c.land_first.new.disk).calls s.history.items c.land_first.new.self.history.items c.note_fault.new.self.history.items
+    c.requires.changing (c.land_first.ensures.calls first t0 stood) (c.if-not-land_first.ensures.failed refl) c.note_fault.ensures.items

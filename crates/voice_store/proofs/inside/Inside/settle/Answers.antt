@@ -1,4 +1,4 @@
-use Rattle.std.proofs.Common.{rules, arith, ◌≡◌, ◌++◌, ◌∷◌, [], ℕ, List, Bool, false, Some, None, IsTrue, refl, sym, ◌∙◌, ap, subst}
+use Rattle.std.proofs.Common.{rules, arith, inr, ◌≡◌, ◌++◌, ◌∷◌, [], ℕ, List, Bool, false, Some, None, IsTrue, refl, sym, ◌∙◌, ap, subst}
 use Rattle.std.specs.Prelude.{is_none}
 use Rattle.crash_laws.specs.Standing.{IsLater}
 use Rattle.crash_laws.specs.Calls.{Lands}
@@ -119,3 +119,8 @@ returns-clause-landed g c = λ done first t0 stood.
     let items : s'.history.items ≡ s.history.items ++ landing_at new.calls ∷ [] =
     c.enter.ensures.items ∙ ap (λ (l : List Entry). l ++ landing_at c.calls.result ∷ []) (ap (λ (x : Inside). x.history.items) rest) ∙ ap (λ (n : ℕ). s.history.items ++ landing_at n ∷ []) c.calls.ensures in
     last_landed first s s' new.calls (ap (λ (x : Inside). x.tapes) rest) items
+
+pub returns-clause-history : goal.returns-clause-history
+returns-clause-history g c =
+    let rest = c.take_in.ensures.rest in
+    inr (c.enter.ensures.items ∙ ap (λ (l : List Entry). l ++ landing_at c.calls.result ∷ []) (ap (λ (x : Inside). x.history.items) rest) ∙ ap (λ (n : ℕ). c.args.self.now.history.items ++ landing_at n ∷ []) c.calls.ensures)

@@ -6,7 +6,7 @@ use Rattle.voice_store.proofs.store.Store.free.Goals as goal
 
 pub returns : goal.returns
 returns g c = λ first stands.
-    let was = subst (λ v. Stands first (g.D.Disk.told v.origin) (g.D.Disk.told v.disk) v.inside) (sym c.self.view_is) stands in
+    let was = subst (λ v. Stands first (g.D.Disk.told v.origin) (g.D.Disk.told v.disk) v.inside v.wanted) (sym c.self.view_is) stands in
     let origin = g.D.Disk.told c.self.inside.origin.value in
     let disk = g.D.Disk.told c.self.inside.disk in
     subst (λ v. c.free.result ≡ free (state_of first v)) c.self.view_is

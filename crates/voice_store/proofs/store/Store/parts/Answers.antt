@@ -6,7 +6,7 @@ use Rattle.voice_store.proofs.store.Store.parts.Goals as goal
 
 pub returns-clause-shows : goal.returns-clause-shows
 returns-clause-shows g c = λ first stands sure.
-    let was = subst (λ v. Stands first (g.D.Disk.told v.origin) (g.D.Disk.told v.disk) v.inside) (sym c.self.view_is) stands in
+    let was = subst (λ v. Stands first (g.D.Disk.told v.origin) (g.D.Disk.told v.disk) v.inside v.wanted) (sym c.self.view_is) stands in
     let origin = g.D.Disk.told c.self.inside.origin.value in
     let disk = g.D.Disk.told c.self.inside.disk in
     let none = subst (λ v. (state_of first v).doubt ≡ None) (sym c.self.view_is) sure in

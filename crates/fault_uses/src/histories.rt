@@ -1,0 +1,90 @@
+//! What a history says that its disk shows, by the plain evaluator.
+
+use crate::runs::{FULL_MOMENT, Start, shape, tapes};
+use crate::shown::{reply_of, shown_plainly};
+use plain_calls::Plain;
+use std::alloc::Global;
+use std::test::Fail;
+use voice_model::{Call, Entry, Reply, Tapes, Why};
+use voice_units::Moment;
+
+/// How many entries tell of a fault.
+pub fn faults_in(history: &[Entry]) -> usize {
+    history
+        .iter()
+        .filter(|entry| matches!(&entry.reply, Reply::No(Why::DiskFault | Why::InDoubt)))
+        .count()
+}
+
+// Whether a call is one of a lane, of which no disk keeps anything.
+fn is_of_lane(call: &Call) -> bool {
+    matches!(call, Call::Play(..) | Call::Feed(..) | Call::Stop(_))
+}
+
+// The evaluator does a call, and has to answer as its entry says.
+fn done_alike(alloc: Global, plain: &mut Plain, tapes: &Tapes, entry: &Entry) -> Result<(), Fail> {
+    let wanted = reply_of(plain, tapes, &entry.call)?;
+    let found = &entry.reply;
+    let wanted = format!(in alloc; "{wanted}")?;
+    let found = format!(in alloc; "{found}")?;
+    if wanted != found {
+        return Err(Fail::new("a reply that the evaluator doesn't give"));
+    }
+    Ok(())
+}
+
+// Does the calls of a history, but those that a fault undid or that a full journal refused; and gives the one that is in doubt at its end.
+fn follow<'a>(
+    alloc: Global,
+    plain: &mut Plain,
+    tapes: &Tapes,
+    history: &'a [Entry],
+) -> Result<Option<&'a Call>, Fail> {
+    let mut doubt: Option<&'a Call> = None;
+    for entry in history {
+        if is_of_lane(&entry.call) {
+            continue;
+        }
+        match (&entry.call, &entry.reply) {
+            (Call::Landed, _) => {
+                let Some(call) = doubt else {
+                    return Err(Fail::new("nothing was in doubt"));
+                };
+                let _landed = reply_of(plain, tapes, call)?;
+                doubt = None;
+            }
+            (_, Reply::No(Why::DiskFault | Why::JournalFull(_, _))) => {}
+            (call, Reply::No(Why::InDoubt)) => doubt = Some(call),
+            _ => done_alike(alloc, plain, tapes, entry)?,
+        }
+    }
+    Ok(doubt)
+}
+
+// The evaluator's state of a disk before a script.
+fn begun(alloc: Global, tapes: &Tapes, start: Start) -> Result<Plain, Fail> {
+    let mut plain = Plain::new(alloc, &shape(start)?)?;
+    if start == Start::Full {
+        let moment = Moment::new(FULL_MOMENT).ok_or("no such moment")?;
+        let _done = reply_of(&mut plain, tapes, &Call::Advance(moment))?;
+    }
+    Ok(plain)
+}
+
+/// What a disk shows behind a history, and behind what is in doubt at its end too if that is to be done.
+pub fn shown_after(
+    alloc: Global,
+    start: Start,
+    history: &[Entry],
+    landing: bool,
+) -> Result<Vec<u8>, Fail> {
+    let tapes = tapes(alloc, start)?;
+    let mut plain = begun(alloc, &tapes, start)?;
+    let doubt = follow(alloc, &mut plain, &tapes, history)?;
+    if let Some(call) = doubt {
+        if landing {
+            let _landed = reply_of(&mut plain, &tapes, call)?;
+        }
+    }
+    shown_plainly(alloc, &mut plain, &tapes)
+}

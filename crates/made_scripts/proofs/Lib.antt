@@ -1,0 +1,6 @@
+mod Texts
+mod Named
+mod Drawn
+mod Mentioned
+mod Said
+mod Reading

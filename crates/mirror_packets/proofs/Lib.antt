@@ -1,0 +1,9 @@
+pub mod Lengths
+pub mod Bodies
+pub mod Heads
+pub mod Lists
+pub mod Files
+pub mod Ranges
+pub mod Found
+pub mod Places
+pub mod Good
