@@ -62,7 +62,13 @@ fn described<R: Threads + Wait + Sync>(
     put_file(alloc, &mut files, b"t", &samples)?;
     let mut shelf = MemShelf::new(alloc, files, Vec::new(alloc));
     let mut sink = MemSink::new(alloc, Vec::new(alloc));
-    let ended = run_with(rt, alloc, &mut shelf, &mut sink, large_disk(alloc, BLOCK, AREA, SIZE)?)?;
+    let ended = run_with(
+        rt,
+        alloc,
+        &mut shelf,
+        &mut sink,
+        large_disk(alloc, BLOCK, AREA, SIZE)?,
+    )?;
     let text = sink.bytes().to_vec(alloc)?;
     Ok((ended, text))
 }
