@@ -15,6 +15,7 @@ Its forms, each with an example:
       --held, --until, --listed: the grace of that class
   voice notes INDEX            a census of keys that notes name     voice notes minutes.idx
   voice audit                  what stands on the disk              voice audit
+  voice make SEED LINES        runs a generated script, and counts  voice make 7 2000
   voice import AU FILE         samples out of an AU file            voice import memo.au memo.ul
   voice export FILE AU         an AU file of samples                voice export memo.ul memo.au
   voice --help, --version      this, and the version

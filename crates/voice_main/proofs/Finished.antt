@@ -9,6 +9,9 @@ use Rattle.voice_model.specs.declared.calls.Call.{Call}
 use Rattle.voice_model.specs.declared.calls.Call.TheVariants as calls
 use Rattle.voice_model.specs.declared.calls.Entry.{Entry}
 use Rattle.voice_model.specs.State.{State}
+use Rattle.voice_model.specs.Room.{used}
+use Rattle.voice_model.specs.Step.{after}
+use Rattle.tallies.specs.Tallies.{samples_of}
 use Rattle.voice_model.specs.Heard.{LegalOn}
 use Rattle.voice_model.specs.Image.{opened_from}
 use Rattle.voice_model.specs.Follows.{Follows, variables_after}
@@ -30,6 +33,7 @@ use Rattle.served_files.specs.Files.{IsHeard, AreEnough, heard_of, queues_of}
 use Rattle.served_files.proofs.Alone.{feeds_alone, enough}
 use Rattle.voice_main.specs.Ordered.{Variables, unset, with_those_of, InOrder, BeginsInOrder}
 use Rattle.voice_main.specs.Ran.{Begun, MadeGiving, Performed}
+use Rattle.voice_main.specs.MadeRuns.{IsCounted}
 use Rattle.voice_main.proofs.Came.{ended, in_short_turns}
 use Rattle.voice_main.proofs.Followed.{each_begins, each_follows, same_of_caller}
 use Rattle.voice_main.proofs.HeardLists.{queued_names, queued_bytes}
@@ -142,20 +146,41 @@ pub never : (b : Bool) → not b ≡ true → b ≡ false
 never false e = refl
 never true e = let no : ⊥ = cc in absurd no
 
--- all lines, as they stand on the disk
-pub serial_finished :
-    {D : Type 0} (told : D → Told) (first : State) (entry opened_origin origin final out : D) (inside : Inside) (lent tapes : List (List ℕ)) (script : Reading) (shown history : List Entry) (lists : List (Vec Heard Global)) (wanted : Bool) → IsWhole is_built_verb script → opened_origin ≡ entry → origin ≡ entry → out ≡ final
-    → Stands first (told origin) (told final) inside wanted → wanted ≡ false → (IsTrue (told entry).honest → opened_from (told entry).bytes ≡ Some first) → inside.history.items ≡ shown → history ≡ shown → arc_value inside.tapes ≡ tapes → lent ≡ tapes → InOrder lent unset script.lines (asked_entries shown)
-    → ((c : ℕ) → 1 ≤ c → GivesFiles lent [] (lines_of_caller c script.lines) (entries_of_caller c (asked_entries shown)) (names_in (heard_of lists c)))
-    → (IsTrue (told opened_origin).honest → opened_from (told opened_origin).bytes ≡ Some first → ((lane : ℕ) → IsAtRest first lane) → ((c : ℕ) → FeedsAlone script.lines c shown) → (c : ℕ) → 1 ≤ c → GivesTo c first lent shown (bytes_in (heard_of lists c)))
-    → Performed tapes (MadeGiving false tapes script (told entry) (told out) history (queues_of lists)) (told entry) (told out) history
-serial_finished told first entry opened_origin origin final out inside lent tapes script shown history lists wanted whole opened_is origin_is out_is stands unwanted opened inside_history same_history inside_tapes same_tapes order names bytes =
-    ended told first entry origin final out inside tapes shown history (λ h. MadeGiving false tapes script (told entry) (told out) h (queues_of lists)) origin_is out_is stands opened inside_history same_history inside_tapes
-    (λ legal. giving_so (told entry).honest first tapes script shown lists whole legal (subst (λ t. InOrder t unset script.lines (asked_entries shown)) same_tapes order)
-    (λ c some. subst (λ t. GivesFiles t [] (lines_of_caller c script.lines) (entries_of_caller c (asked_entries shown)) (names_in (heard_of lists c))) same_tapes (names c some))
-    (λ is alone c some. subst (λ t. GivesTo c first t shown (bytes_in (heard_of lists c))) same_tapes
-    (bytes (subst (λ d. IsTrue (told d).honest) (sym opened_is) is) (subst (λ d. opened_from (told d).bytes ≡ Some first) (sym opened_is) (opened is)) (opened_rests (told entry).bytes first (opened is)) alone c some))
-    (told entry) (told out) (in_short_turns told first entry origin final out inside tapes shown wanted origin_is out_is stands unwanted inside_history inside_tapes))
+-- all lines of a script, as they stand on the disk
+module _ {D : Type 0} (told : D → Told) (first : State) (entry opened_origin origin final out : D) (inside : Inside) (lent tapes : List (List ℕ)) (script : Reading) (shown history : List Entry) (lists : List (Vec Heard Global)) (wanted : Bool) where
+  -- what they gave, by the tapes that the store has
+  giving_lent : IsWhole is_built_verb script → opened_origin ≡ entry → origin ≡ entry → out ≡ final → Stands first (told origin) (told final) inside wanted → wanted ≡ false → (IsTrue (told entry).honest → opened_from (told entry).bytes ≡ Some first)
+      → inside.history.items ≡ shown → arc_value inside.tapes ≡ tapes → lent ≡ tapes → InOrder lent unset script.lines (asked_entries shown)
+      → ((c : ℕ) → 1 ≤ c → GivesFiles lent [] (lines_of_caller c script.lines) (entries_of_caller c (asked_entries shown)) (names_in (heard_of lists c)))
+      → (IsTrue (told opened_origin).honest → opened_from (told opened_origin).bytes ≡ Some first → ((lane : ℕ) → IsAtRest first lane) → ((c : ℕ) → FeedsAlone script.lines c shown) → (c : ℕ) → 1 ≤ c → GivesTo c first lent shown (bytes_in (heard_of lists c)))
+      → LegalOn (told entry).honest first tapes shown → MadeGiving false tapes script (told entry) (told out) shown (queues_of lists) (told entry).honest first
+  giving_lent whole opened_is origin_is out_is stands unwanted opened inside_history inside_tapes same_tapes order names bytes legal =
+      giving_so (told entry).honest first tapes script shown lists whole legal (subst (λ t. InOrder t unset script.lines (asked_entries shown)) same_tapes order)
+      (λ c some. subst (λ t. GivesFiles t [] (lines_of_caller c script.lines) (entries_of_caller c (asked_entries shown)) (names_in (heard_of lists c))) same_tapes (names c some))
+      (λ is alone c some. subst (λ t. GivesTo c first t shown (bytes_in (heard_of lists c))) same_tapes
+      (bytes (subst (λ d. IsTrue (told d).honest) (sym opened_is) is) (subst (λ d. opened_from (told d).bytes ≡ Some first) (sym opened_is) (opened is)) (opened_rests (told entry).bytes first (opened is)) alone c some))
+      (told entry) (told out) (in_short_turns told first entry origin final out inside tapes shown wanted origin_is out_is stands unwanted inside_history inside_tapes)
+
+  pub serial_finished : IsWhole is_built_verb script → opened_origin ≡ entry → origin ≡ entry → out ≡ final → Stands first (told origin) (told final) inside wanted → wanted ≡ false → (IsTrue (told entry).honest → opened_from (told entry).bytes ≡ Some first)
+      → inside.history.items ≡ shown → history ≡ shown → arc_value inside.tapes ≡ tapes → lent ≡ tapes → InOrder lent unset script.lines (asked_entries shown)
+      → ((c : ℕ) → 1 ≤ c → GivesFiles lent [] (lines_of_caller c script.lines) (entries_of_caller c (asked_entries shown)) (names_in (heard_of lists c)))
+      → (IsTrue (told opened_origin).honest → opened_from (told opened_origin).bytes ≡ Some first → ((lane : ℕ) → IsAtRest first lane) → ((c : ℕ) → FeedsAlone script.lines c shown) → (c : ℕ) → 1 ≤ c → GivesTo c first lent shown (bytes_in (heard_of lists c)))
+      → Performed tapes (MadeGiving false tapes script (told entry) (told out) history (queues_of lists)) (told entry) (told out) history
+  serial_finished whole opened_is origin_is out_is stands unwanted opened inside_history same_history inside_tapes same_tapes order names bytes =
+      ended told first entry origin final out inside tapes shown history (λ h. MadeGiving false tapes script (told entry) (told out) h (queues_of lists)) origin_is out_is stands opened inside_history same_history inside_tapes
+      (giving_lent whole opened_is origin_is out_is stands unwanted opened inside_history inside_tapes same_tapes order names bytes)
+
+  -- and how much there is after them
+  pub serial_counted : (ropes samples blocks : ℕ) → IsWhole is_built_verb script → opened_origin ≡ entry → origin ≡ entry → out ≡ final → Stands first (told origin) (told final) inside wanted → wanted ≡ false
+      → (IsTrue (told entry).honest → opened_from (told entry).bytes ≡ Some first)
+      → inside.history.items ≡ shown → history ≡ shown → arc_value inside.tapes ≡ tapes → lent ≡ tapes → InOrder lent unset script.lines (asked_entries shown)
+      → ((c : ℕ) → 1 ≤ c → GivesFiles lent [] (lines_of_caller c script.lines) (entries_of_caller c (asked_entries shown)) (names_in (heard_of lists c)))
+      → (IsTrue (told opened_origin).honest → opened_from (told opened_origin).bytes ≡ Some first → ((lane : ℕ) → IsAtRest first lane) → ((c : ℕ) → FeedsAlone script.lines c shown) → (c : ℕ) → 1 ≤ c → GivesTo c first lent shown (bytes_in (heard_of lists c)))
+      → (let s = after first tapes shown in (ropes ≡ length s.kept.ropes) × (samples ≡ samples_of s.kept.ropes) × (blocks ≡ used s))
+      → Performed tapes (IsCounted tapes script (told entry) (told out) history ropes samples blocks) (told entry) (told out) history
+  serial_counted ropes samples blocks whole opened_is origin_is out_is stands unwanted opened inside_history same_history inside_tapes same_tapes order names bytes counts =
+      ended told first entry origin final out inside tapes shown history (λ h. IsCounted tapes script (told entry) (told out) h ropes samples blocks) origin_is out_is stands opened inside_history same_history inside_tapes
+      (λ legal. let giving = giving_lent whole opened_is origin_is out_is stands unwanted opened inside_history inside_tapes same_tapes order names bytes legal in ((giving.0, giving.2), counts))
 
 -- there is a file for each entry that ends a serving
 pub serial_enough :

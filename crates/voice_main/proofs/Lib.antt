@@ -28,4 +28,7 @@ pub mod Noted
 pub mod Verdicts
 pub mod Counted
 pub mod Standing
+pub mod Making
+pub mod Wide
+pub mod MakeWords
 pub mod Left

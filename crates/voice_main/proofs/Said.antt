@@ -1,14 +1,15 @@
 -- Words say at most one command.
-use Rattle.std.proofs.Common.{◌≡◌, ℕ, ◌⊎◌, inl, inr, List, [], ◌∷◌, Bool, true, false, refl, sym, ap, subst, ◌∙◌}
-use Rattle.std.specs.Prelude.{codes, IsTrue, bytes_eq}
+use Rattle.std.proofs.Common.{◌≡◌, ℕ, ◌⊎◌, inl, inr, List, [], ◌∷◌, Bool, true, false, refl, sym, ap, subst, ◌∙◌, arith, ◌<◌, ◌^◌}
+use Rattle.std.specs.Prelude.{codes, decimal, IsTrue, bytes_eq}
 use Rattle.std.proofs.lemmas.Bool.{false≢true}
+use Rattle.std.proofs.lemmas.Fmt.{decimal_injective}
 use Rattle.script_lang.specs.Forms.{is_file}
 use Rattle.voice_model.specs.declared.calls.Entry.{Entry}
 use Rattle.voice_outside.specs.Disk.{Told}
 use Rattle.voice_main.specs.declared.options.FormatNumbers.{FormatNumbers}
 use Rattle.voice_main.specs.declared.status.Status.{Status}
 use Rattle.voice_main.specs.declared.status.Status.TheVariants.{Done, Usage, ShelfFault, NoMemory}
-use Rattle.voice_main.specs.Words.{Command, Says, run_command, IsSerial, IsThreaded, IsFormat, IsConversion, IsNotes, IsAudit, IsRefused, IsNoRun, IsNoFormat, IsNoConversion, IsNoAudit, IsNoNotes}
+use Rattle.voice_main.specs.Words.{Command, Says, run_command, IsSerial, IsThreaded, IsFormat, IsConversion, IsNotes, IsAudit, IsRefused, IsNoRun, IsNoFormat, IsNoConversion, IsNoAudit, IsNoNotes, IsMake, IsNoMake}
 use Rattle.voice_main.specs.declared.convert.Way.{Way}
 use Rattle.voice_main.specs.declared.convert.Way.TheVariants as ways
 use Rattle.voice_main.specs.Conversions.{way_word}
@@ -18,6 +19,7 @@ use Rattle.voice_main.specs.FormatPromise.{FormatPromise, FormatStatus}
 use Rattle.voice_main.specs.ConversionPromise.{ConversionPromise}
 use Rattle.voice_main.specs.NotesPromise.{NotesPromise}
 use Rattle.voice_main.specs.AuditPromise.{AuditPromise, AuditComes}
+use Rattle.voice_main.specs.MakePromise.{MakePromise, MakeComes}
 use Rattle.voice_main.specs.Promises.{Promises, Comes}
 
 -- `--threads` names no file
@@ -138,13 +140,50 @@ conversion_not_audit words way source target p q = way_not_audit way (source ∷
 notes_not_audit : (words : List (List ℕ)) (index : List ℕ) → IsNotes words index → IsAudit words → ⊥
 notes_not_audit words index p q = false≢true (sym (ap (begins (codes "notes")) (sym p.form ∙ q)))
 
-pub refused_by : (words : List (List ℕ)) → IsNoRun words → IsNoFormat words → IsNoConversion words → IsNoAudit words → IsNoNotes words → IsRefused words
-refused_by words run format convert audit notes (Command.Run name) = run false name
-refused_by words run format convert audit notes (Command.RunThreads name) = run true name
-refused_by words run format convert audit notes (Command.Format numbers) = format numbers
-refused_by words run format convert audit notes (Command.Convert way source target) = convert way source target
-refused_by words run format convert audit notes (Command.Notes index) = notes index
-refused_by words run format convert audit notes Command.Audit = audit
+-- words that ask for a generated script
+make_word : (word : List ℕ) (rest others : List (List ℕ)) → bytes_eq (codes "make") word ≡ false → word ∷ rest ≡ codes "make" ∷ others → ⊥
+make_word word rest others other e = false≢true (sym other ∙ ap (begins (codes "make")) e)
+
+run_not_make : (threads : Bool) (words : List (List ℕ)) (name : List ℕ) (seed lines : ℕ) → Says words (run_command threads name) → IsMake words seed lines → ⊥
+run_not_make false words name seed lines r q = make_word (codes "run") (name ∷ []) (decimal seed ∷ decimal lines ∷ []) refl (sym r.form ∙ q.form)
+run_not_make true words name seed lines r q = by r.form
+  where
+    by : (words ≡ codes "run" ∷ name ∷ codes "--threads" ∷ []) ⊎ (words ≡ codes "run" ∷ codes "--threads" ∷ name ∷ []) → ⊥
+    by (inl e) = make_word (codes "run") (name ∷ codes "--threads" ∷ []) (decimal seed ∷ decimal lines ∷ []) refl (sym e ∙ q.form)
+    by (inr e) = make_word (codes "run") (codes "--threads" ∷ name ∷ []) (decimal seed ∷ decimal lines ∷ []) refl (sym e ∙ q.form)
+
+format_not_make : (words : List (List ℕ)) (numbers : FormatNumbers) (seed lines : ℕ) → IsFormat words numbers → IsMake words seed lines → ⊥
+format_not_make words numbers seed lines f q = make_word (codes "format") f.options (decimal seed ∷ decimal lines ∷ []) refl (sym f.form ∙ q.form)
+
+way_not_make : (way : Way) (rest others : List (List ℕ)) → way_word way ∷ rest ≡ codes "make" ∷ others → ⊥
+way_not_make ways.Import rest others e = make_word (codes "import") rest others refl e
+way_not_make ways.Export rest others e = make_word (codes "export") rest others refl e
+
+conversion_not_make : (words : List (List ℕ)) (way : Way) (source target : List ℕ) (seed lines : ℕ) → IsConversion way words source target → IsMake words seed lines → ⊥
+conversion_not_make words way source target seed lines p q = way_not_make way (source ∷ target ∷ []) (decimal seed ∷ decimal lines ∷ []) (sym p.form ∙ q.form)
+
+notes_not_make : (words : List (List ℕ)) (index : List ℕ) (seed lines : ℕ) → IsNotes words index → IsMake words seed lines → ⊥
+notes_not_make words index seed lines p q = make_word (codes "notes") (index ∷ []) (decimal seed ∷ decimal lines ∷ []) refl (sym p.form ∙ q.form)
+
+audit_not_make : (words : List (List ℕ)) (seed lines : ℕ) → IsAudit words → IsMake words seed lines → ⊥
+audit_not_make words seed lines p q = make_word (codes "audit") [] (decimal seed ∷ decimal lines ∷ []) refl (sym p ∙ q.form)
+
+-- words ask for one generated script
+same_making : (words : List (List ℕ)) (a b m n : ℕ) → IsMake words a m → IsMake words b n → (a ≡ b) × (m ≡ n)
+same_making words a b m n p q =
+    let e : codes "make" ∷ decimal a ∷ decimal m ∷ [] ≡ codes "make" ∷ decimal b ∷ decimal n ∷ [] = sym p.form ∙ q.form in
+    let seeds : decimal a ≡ decimal b = cc in
+    let counts : decimal m ≡ decimal n = cc in
+    (decimal_injective a b p.seed_most q.seed_most seeds, decimal_injective m n (let few = p.most in omega (arith, few)) (let few = q.most in omega (arith, few)) counts)
+
+pub refused_by : (words : List (List ℕ)) → IsNoRun words → IsNoFormat words → IsNoConversion words → IsNoAudit words → IsNoNotes words → IsNoMake words → IsRefused words
+refused_by words run format convert audit notes make (Command.Run name) = run false name
+refused_by words run format convert audit notes make (Command.RunThreads name) = run true name
+refused_by words run format convert audit notes make (Command.Format numbers) = format numbers
+refused_by words run format convert audit notes make (Command.Convert way source target) = convert way source target
+refused_by words run format convert audit notes make (Command.Notes index) = notes index
+refused_by words run format convert audit notes make Command.Audit = audit
+refused_by words run format convert audit notes make (Command.Make seed lines) = make seed lines
 
 -- the promise of the run that the words say is that of whatever command they say
 pub run_only : (threads : Bool) (words : List (List ℕ)) (name : List ℕ) (old new : Outside) (status : Status) (history : List Entry) → Says words (run_command threads name) → RunPromise threads name old new status history → (command : Command) → Says words command → Promises command old new status history
@@ -156,18 +195,20 @@ run_only threads words name old new status history p h (Command.Format numbers) 
 run_only threads words name old new status history p h (Command.Convert way source target) q = absurd (run_not_conversion threads words name way source target p q)
 run_only threads words name old new status history p h (Command.Notes index) q = absurd (run_not_notes threads words name index p q)
 run_only threads words name old new status history p h Command.Audit q = absurd (run_not_audit threads words name p q)
+run_only threads words name old new status history p h (Command.Make seed lines) q = absurd (run_not_make threads words name seed lines p q)
 
 pub run_comes : (threads : Bool) (words : List (List ℕ)) (name : List ℕ) (old new : Outside) (status : Status) (history : List Entry) → Says words (run_command threads name) → RunPromise threads name old new status history → Comes words old new status history
 run_comes false words name old new status history p h = inr (Command.Run name, p, h)
 run_comes true words name old new status history p h = inr (Command.RunThreads name, p, h)
 
-pub format_only : (words : List (List ℕ)) (old new : Outside) (status : Status) (history : List Entry) → IsNoRun words → IsNoConversion words → IsNoAudit words → IsNoNotes words → ((numbers : FormatNumbers) → IsFormat words numbers → FormatPromise numbers old new status history) → (command : Command) → Says words command → Promises command old new status history
-format_only words old new status history none other audit notes h (Command.Run b) q = absurd (none false b q)
-format_only words old new status history none other audit notes h (Command.RunThreads b) q = absurd (none true b q)
-format_only words old new status history none other audit notes h (Command.Format numbers) q = h numbers q
-format_only words old new status history none other audit notes h (Command.Convert way source target) q = absurd (other way source target q)
-format_only words old new status history none other audit notes h (Command.Notes index) q = absurd (notes index q)
-format_only words old new status history none other audit notes h Command.Audit q = absurd (audit q)
+pub format_only : (words : List (List ℕ)) (old new : Outside) (status : Status) (history : List Entry) → IsNoRun words → IsNoConversion words → IsNoAudit words → IsNoNotes words → IsNoMake words → ((numbers : FormatNumbers) → IsFormat words numbers → FormatPromise numbers old new status history) → (command : Command) → Says words command → Promises command old new status history
+format_only words old new status history none other audit notes make h (Command.Run b) q = absurd (none false b q)
+format_only words old new status history none other audit notes make h (Command.RunThreads b) q = absurd (none true b q)
+format_only words old new status history none other audit notes make h (Command.Format numbers) q = h numbers q
+format_only words old new status history none other audit notes make h (Command.Convert way source target) q = absurd (other way source target q)
+format_only words old new status history none other audit notes make h (Command.Notes index) q = absurd (notes index q)
+format_only words old new status history none other audit notes make h Command.Audit q = absurd (audit q)
+format_only words old new status history none other audit notes make h (Command.Make seed lines) q = absurd (make seed lines q)
 
 pub format_comes : (words : List (List ℕ)) (numbers : FormatNumbers) (old new : Outside) (status : Status) (history : List Entry) → IsFormat words numbers → FormatPromise numbers old new status history → Comes words old new status history
 format_comes words numbers old new status history p h = inr (Command.Format numbers, p, h)
@@ -179,6 +220,7 @@ conversion_only way words source target old new status history p h (Command.RunT
 conversion_only way words source target old new status history p h (Command.Format numbers) q = absurd (format_not_conversion words numbers way source target q p)
 conversion_only way words source target old new status history p h (Command.Notes index) q = absurd (conversion_not_notes words way source target index p q)
 conversion_only way words source target old new status history p h Command.Audit q = absurd (conversion_not_audit words way source target p q)
+conversion_only way words source target old new status history p h (Command.Make seed lines) q = absurd (conversion_not_make words way source target seed lines p q)
 conversion_only way words source target old new status history p h (Command.Convert other s t) q =
     let same = same_way words way other source target s t p.form q.form in
     let at_way = subst (λ w. ConversionPromise w source target old new status history) same.0 h in
@@ -196,6 +238,7 @@ notes_only words index old new status history p h (Command.Format numbers) q = a
 notes_only words index old new status history p h (Command.Convert way source target) q = absurd (conversion_not_notes words way source target index q p)
 notes_only words index old new status history p h (Command.Notes b) q = subst (λ n. NotesPromise n old new status history) (same_index words index b p q) h
 notes_only words index old new status history p h Command.Audit q = absurd (notes_not_audit words index p q)
+notes_only words index old new status history p h (Command.Make seed lines) q = absurd (notes_not_make words index seed lines p q)
 
 pub notes_comes : (words : List (List ℕ)) (index : List ℕ) (old new : Outside) (status : Status) (history : List Entry) → IsNotes words index → NotesPromise index old new status history → Comes words old new status history
 notes_comes words index old new status history p h = inr (Command.Notes index, p, h)
@@ -208,9 +251,25 @@ audit_only words old new status history p h (Command.Format numbers) q = absurd 
 audit_only words old new status history p h (Command.Convert way source target) q = absurd (conversion_not_audit words way source target q p)
 audit_only words old new status history p h (Command.Notes index) q = absurd (notes_not_audit words index q p)
 audit_only words old new status history p h Command.Audit q = h
+audit_only words old new status history p h (Command.Make seed lines) q = absurd (audit_not_make words seed lines p q)
 
 pub audit_comes : (words : List (List ℕ)) (old new : Outside) (status : Status) (history : List Entry) → IsAudit words → AuditPromise old new status history → Comes words old new status history
 audit_comes words old new status history p h = inr (Command.Audit, p, h)
+
+-- the promise of the generated script that the words ask for is that of whatever command they say
+pub make_only : (words : List (List ℕ)) (seed lines : ℕ) (old new : Outside) (status : Status) (history : List Entry) → IsMake words seed lines → MakePromise seed lines old new status history → (command : Command) → Says words command → Promises command old new status history
+make_only words seed lines old new status history p h (Command.Run b) q = absurd (run_not_make false words b seed lines q p)
+make_only words seed lines old new status history p h (Command.RunThreads b) q = absurd (run_not_make true words b seed lines q p)
+make_only words seed lines old new status history p h (Command.Format numbers) q = absurd (format_not_make words numbers seed lines q p)
+make_only words seed lines old new status history p h (Command.Convert way source target) q = absurd (conversion_not_make words way source target seed lines q p)
+make_only words seed lines old new status history p h (Command.Notes b) q = absurd (notes_not_make words b seed lines q p)
+make_only words seed lines old new status history p h Command.Audit q = absurd (audit_not_make words seed lines q p)
+make_only words seed lines old new status history p h (Command.Make other count) q =
+    let same = same_making words seed other lines count p q in
+    subst (λ n. MakePromise other n old new status history) same.1 (subst (λ n. MakePromise n lines old new status history) same.0 h)
+
+pub make_comes : (words : List (List ℕ)) (seed lines : ℕ) (old new : Outside) (status : Status) (history : List Entry) → IsMake words seed lines → MakePromise seed lines old new status history → Comes words old new status history
+make_comes words seed lines old new status history p h = inr (Command.Make seed lines, p, h)
 
 aloud : (command : Command) (old new : Outside) (history : List Entry) → Promises command old new Usage history → ⊥
 aloud (Command.Run name) old new history h = h.comes
@@ -219,6 +278,7 @@ aloud (Command.Format numbers) old new history h = h.comes
 aloud (Command.Convert way source target) old new history h = h.comes
 aloud (Command.Notes index) old new history h = h.comes
 aloud Command.Audit old new history h = h.comes
+aloud (Command.Make seed lines) old new history h = h.comes
 
 -- usage comes exactly where the words are refused
 pub usage_of : (words : List (List ℕ)) (old new : Outside) (status : Status) (history : List Entry) → Comes words old new status history → IsRefused words → status ≡ Usage
@@ -240,3 +300,6 @@ format_no_shelf numbers old new status comes is = subst (FormatStatus numbers ol
 
 pub audit_no_shelf : (old new : Outside) (status : Status) (history : List Entry) → AuditPromise old new status history → status ≡ ShelfFault → ⊥
 audit_no_shelf old new status history h is = subst (AuditComes old new) is h.comes
+
+pub make_no_shelf : (seed lines : ℕ) (old new : Outside) (status : Status) (history : List Entry) → MakePromise seed lines old new status history → status ≡ ShelfFault → ⊥
+make_no_shelf seed lines old new status history h is = subst (MakeComes seed lines old new history) is h.comes

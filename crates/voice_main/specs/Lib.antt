@@ -5,6 +5,8 @@ pub mod Conversions
 pub mod Done
 pub mod FormatPromise
 pub mod Load
+pub mod MadeRuns
+pub mod MakePromise
 pub mod Notes
 pub mod NotesPromise
 pub mod Options

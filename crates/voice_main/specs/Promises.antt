@@ -12,6 +12,7 @@ use Rattle.voice_main.specs.FormatPromise.{FormatPromise}
 use Rattle.voice_main.specs.ConversionPromise.{ConversionPromise}
 use Rattle.voice_main.specs.NotesPromise.{NotesPromise}
 use Rattle.voice_main.specs.AuditPromise.{AuditPromise}
+use Rattle.voice_main.specs.MakePromise.{MakePromise}
 
 -- the promise of each command
 abbrev pub Promises : Command → Outside → Outside → Status → List Entry → Type 0
@@ -21,6 +22,7 @@ Promises (Command.Format numbers) = FormatPromise numbers
 Promises (Command.Convert way source target) = ConversionPromise way source target
 Promises (Command.Notes index) = NotesPromise index
 Promises Command.Audit = AuditPromise
+Promises (Command.Make seed lines) = MakePromise seed lines
 
 -- the words are refused, or they say a command, whose promise holds
 abbrev pub Comes : List (List ℕ) → Outside → Outside → Status → List Entry → Type 0

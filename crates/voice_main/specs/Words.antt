@@ -2,7 +2,7 @@
 --     Command      what the words may ask for
 --     Says words command      the words ask for it
 --     IsRefused words      they ask for nothing that the program knows
-use Rattle.std.specs.Prelude.{ℕ, List, [], ◌∷◌, ◌≡◌, ◌⊎◌, Bool, true, false, codes, IsTrue}
+use Rattle.std.specs.Prelude.{ℕ, List, [], ◌∷◌, ◌≡◌, ◌⊎◌, ◌<◌, ◌≤◌, ◌^◌, Bool, true, false, codes, decimal, IsTrue}
 use Rattle.script_lang.specs.Forms.{is_file}
 use Rattle.voice_main.specs.declared.convert.Way.{Way}
 use Rattle.voice_main.specs.Conversions.{way_word}
@@ -10,7 +10,7 @@ use Rattle.voice_main.specs.declared.options.Given.{Given}
 use Rattle.voice_main.specs.declared.options.FormatNumbers.{FormatNumbers}
 use Rattle.voice_main.specs.Options.{none_given, Gives, numbers_of}
 
--- what the words may ask for: a run of a script in its order, or of each caller's lines on a thread of its own; a disk formatted; a file made of another; a census of the keys that notes name; an audit of the disk
+-- what the words may ask for: a run of a script in its order, or of each caller's lines on a thread of its own; a disk formatted; a file made of another; a census of the keys that notes name; an audit of the disk; a run of the script that a seed generates, of so many lines
 pub data Command : Type 0 where
   Run : List ℕ → Command
   RunThreads : List ℕ → Command
@@ -18,6 +18,7 @@ pub data Command : Type 0 where
   Convert : Way → List ℕ → List ℕ → Command
   Notes : List ℕ → Command
   Audit : Command
+  Make : ℕ → ℕ → Command
 
 -- the run of a script, on threads or not
 abbrev pub run_command : Bool → List ℕ → Command
@@ -57,6 +58,13 @@ pub record IsNotes (words : List (List ℕ)) (index : List ℕ) : Type 0 where
 abbrev pub IsAudit : List (List ℕ) → Type 0
 IsAudit words = words ≡ codes "audit" ∷ []
 
+-- they are `make SEED LINES`, numbers in decimal digits, the second one from 1 to 65,535
+pub record IsMake (words : List (List ℕ)) (seed lines : ℕ) : Type 0 where
+  pub form : words ≡ codes "make" ∷ decimal seed ∷ decimal lines ∷ []
+  pub seed_most : seed < 2 ^ 64
+  pub least : 1 ≤ lines
+  pub most : lines ≤ 65535
+
 abbrev pub Says : List (List ℕ) → Command → Type 0
 Says words (Command.Run name) = IsSerial words name
 Says words (Command.RunThreads name) = IsThreaded words name
@@ -64,6 +72,7 @@ Says words (Command.Format numbers) = IsFormat words numbers
 Says words (Command.Convert way source target) = IsConversion way words source target
 Says words (Command.Notes index) = IsNotes words index
 Says words Command.Audit = IsAudit words
+Says words (Command.Make seed lines) = IsMake words seed lines
 
 -- the words ask for nothing that the program knows
 abbrev pub IsRefused : List (List ℕ) → Type 0
@@ -88,3 +97,7 @@ IsNoNotes words = (index : List ℕ) → IsNotes words index → ⊥
 -- they ask for no audit
 abbrev pub IsNoAudit : List (List ℕ) → Type 0
 IsNoAudit words = IsAudit words → ⊥
+
+-- they ask for no generated script
+abbrev pub IsNoMake : List (List ℕ) → Type 0
+IsNoMake words = (seed lines : ℕ) → IsMake words seed lines → ⊥

@@ -7,6 +7,7 @@ mod census;
 mod convert;
 mod format;
 mod load;
+mod make;
 mod notes;
 mod numbers;
 mod options;

@@ -12,8 +12,8 @@ use voice_model::Entry;
 use voice_outside::{OutsideError, Sink};
 use voice_units::NoMemory;
 
-// The text of a history: one line for each entry, in order.
-fn history_text(alloc: Global, history: &[Entry]) -> Result<Vec<u8>, NoMemory>
+/// The text of a history: one line for each entry, in order.
+pub fn history_text(alloc: Global, history: &[Entry]) -> Result<Vec<u8>, NoMemory>
     ensures { IfOk result (λ text. text.items ≡ text_of history.now) }
 {
     let mut text = Vec::new(alloc);

@@ -8,7 +8,7 @@ ghost use Rattle.script_lang.specs.Verbs.{is_built_verb};
 ghost use Rattle.script_lang.specs.Whole.{IsWhole};
 ghost use Rattle.voice_store.specs.Facts.{GoesOn};
 ghost use Rattle.served_files.specs.Files.{AreEnough, queues_of};
-ghost use Rattle.voice_main.specs.Words.{Command, Says, IsRefused, IsConversion, IsNoRun, IsNoConversion, IsNoAudit, IsNoNotes};
+ghost use Rattle.voice_main.specs.Words.{Command, Says, IsRefused, IsConversion, IsNoRun, IsNoConversion, IsNoAudit, IsNoNotes, IsNoMake};
 ghost use Rattle.voice_main.specs.declared.convert.Way.{Way as WayValue};
 ghost use Rattle.voice_main.specs.Outside.{outside, IsUnchanged};
 ghost use Rattle.voice_main.specs.Ran.{IsReady, Performed, Begun, MadeGiving};
@@ -23,13 +23,14 @@ use crate::census::census;
 use crate::convert::convert;
 use crate::format::format;
 use crate::load::{file, files, load_status};
+use crate::make::make;
 use crate::options::format_numbers;
 use crate::output::print;
 use crate::played::finish;
 use crate::script_lines::run_lines;
 use crate::status::Status;
 use crate::threads::call_on_threads;
-use crate::words::{conversion_words, is_audit, notes_words, run_words};
+use crate::words::{conversion_words, is_audit, make_words, notes_words, run_words};
 use script_lang::{Script, ScriptError, parse};
 use served_files::Heard;
 use std::alloc::Global;
@@ -270,6 +271,7 @@ fn run_or_format<R: Threads + Wait + Sync, K: Shelf, O: Sink, D: Disk, G: Gate>(
     requires conversion { IsNoConversion (map string_bytes words.now) }
     requires audit { IsNoAudit (map string_bytes words.now) }
     requires notes { IsNoNotes (map string_bytes words.now) }
+    requires make { IsNoMake (map string_bytes words.now) }
     // The words are refused, or they say a command, whose promise holds.
     ensures comes { Comes (map string_bytes words.now) (outside (K.files shelf.old) (K.faults shelf.old) (O.contents out.old) (O.faults out.old) (O.empty_takes out.old) (D.told disk)) (outside (K.files shelf.new) (K.faults shelf.new) (O.contents out.new) (O.faults out.new) (O.empty_takes out.new) (D.told result.disk)) result.status result.history.items }
     // The promise of whatever command the words say holds.
@@ -325,7 +327,46 @@ fn run_or_format<R: Threads + Wait + Sync, K: Shelf, O: Sink, D: Disk, G: Gate>(
     )
 }
 
-// Makes a census of what notes name, runs a script or formats the disk, as the words say.
+// Runs a generated script or one of a file, or formats the disk, as the words say.
+fn run_make_or_other<R: Threads + Wait + Sync, K: Shelf, O: Sink, D: Disk, G: Gate>(
+    rt: &R,
+    alloc: Global,
+    words: &[String],
+    shelf: &mut K,
+    out: &mut O,
+    disk: D,
+    gate: &G,
+) -> Ended<D>
+    requires conversion { IsNoConversion (map string_bytes words.now) }
+    requires audit { IsNoAudit (map string_bytes words.now) }
+    requires notes { IsNoNotes (map string_bytes words.now) }
+    // The words are refused, or they say a command, whose promise holds.
+    ensures comes { Comes (map string_bytes words.now) (outside (K.files shelf.old) (K.faults shelf.old) (O.contents out.old) (O.faults out.old) (O.empty_takes out.old) (D.told disk)) (outside (K.files shelf.new) (K.faults shelf.new) (O.contents out.new) (O.faults out.new) (O.empty_takes out.new) (D.told result.disk)) result.status result.history.items }
+    // The promise of whatever command the words say holds.
+    ensures promise { (command : Command) → Says (map string_bytes words.now) command → Promises command (outside (K.files shelf.old) (K.faults shelf.old) (O.contents out.old) (O.faults out.old) (O.empty_takes out.old) (D.told disk)) (outside (K.files shelf.new) (K.faults shelf.new) (O.contents out.new) (O.faults out.new) (O.empty_takes out.new) (D.told result.disk)) result.status result.history.items }
+    // Usage comes exactly where the words are refused.
+    ensures usage { IsRefused (map string_bytes words.now) → result.status ≡ Status.Usage }
+    ensures refused { result.status ≡ Status.Usage → IsRefused (map string_bytes words.now) }
+    // What stands after any status: the front of the text that the sink took, but for a generated script, and the files, but for a run, whose promises tell them.
+    ensures prefix { IsNoMake (map string_bytes words.now) → IfSome (O.contents out.old) (λ had. (n : ℕ) × (O.contents out.new ≡ Some (had ++ take n (text_of result.history.items)))) }
+    ensures files { IsNoRun (map string_bytes words.now) → K.files shelf.new ≡ K.files shelf.old }
+    // A status that is decided before the first call leaves no history and prints nothing; one that is decided before the disk is touched leaves the disk.
+    ensures silent { IsSilent result.status → (result.history.items ≡ []) × (O.contents out.new ≡ O.contents out.old) }
+    ensures early { IsEarly result.status → result.disk ≡ disk }
+    // A status of the shelf's fault prints nothing, also where it comes after the calls.
+    ensures unprinted { result.status ≡ Status.ShelfFault → O.contents out.new ≡ O.contents out.old }
+    // Where no script is run, it comes before the disk is touched.
+    ensures shelf { IsNoRun (map string_bytes words.now) → result.status ≡ Status.ShelfFault → (result.disk ≡ disk) × (result.history.items ≡ []) × (O.contents out.new ≡ O.contents out.old) }
+    // The disk keeps its size, and its counts never fall.
+    ensures disk { GoesOn (D.told disk) (D.told result.disk) }
+{
+    let Some(asked) = make_words(words) else {
+        return run_or_format(rt, alloc, words, shelf, out, disk, gate);
+    };
+    make(alloc, asked, out, disk, gate)
+}
+
+// Makes a census of what notes name, runs a script, a generated one too, or formats the disk, as the words say.
 fn run_notes_or_other<R: Threads + Wait + Sync, K: Shelf, O: Sink, D: Disk, G: Gate>(
     rt: &R,
     alloc: Global,
@@ -344,8 +385,8 @@ fn run_notes_or_other<R: Threads + Wait + Sync, K: Shelf, O: Sink, D: Disk, G: G
     // Usage comes exactly where the words are refused.
     ensures usage { IsRefused (map string_bytes words.now) → result.status ≡ Status.Usage }
     ensures refused { result.status ≡ Status.Usage → IsRefused (map string_bytes words.now) }
-    // What stands after any status: the front of the text that the sink took, and the files, but for a run, whose promise tells them.
-    ensures prefix { IfSome (O.contents out.old) (λ had. (n : ℕ) × (O.contents out.new ≡ Some (had ++ take n (text_of result.history.items)))) }
+    // What stands after any status: the front of the text that the sink took, but for a generated script, and the files, but for a run, whose promises tell them.
+    ensures prefix { IsNoMake (map string_bytes words.now) → IfSome (O.contents out.old) (λ had. (n : ℕ) × (O.contents out.new ≡ Some (had ++ take n (text_of result.history.items)))) }
     ensures files { IsNoRun (map string_bytes words.now) → K.files shelf.new ≡ K.files shelf.old }
     // A status that is decided before the first call leaves no history and prints nothing; one that is decided before the disk is touched leaves the disk.
     ensures silent { IsSilent result.status → (result.history.items ≡ []) × (O.contents out.new ≡ O.contents out.old) }
@@ -358,7 +399,7 @@ fn run_notes_or_other<R: Threads + Wait + Sync, K: Shelf, O: Sink, D: Disk, G: G
     ensures disk { GoesOn (D.told disk) (D.told result.disk) }
 {
     let Some(index) = notes_words(words) else {
-        return run_or_format(rt, alloc, words, shelf, out, disk, gate);
+        return run_make_or_other(rt, alloc, words, shelf, out, disk, gate);
     };
     census(alloc, &index, shelf, out, disk, gate)
 }
@@ -381,8 +422,8 @@ fn run_audit_or_other<R: Threads + Wait + Sync, K: Shelf, O: Sink, D: Disk, G: G
     // Usage comes exactly where the words are refused.
     ensures usage { IsRefused (map string_bytes words.now) → result.status ≡ Status.Usage }
     ensures refused { result.status ≡ Status.Usage → IsRefused (map string_bytes words.now) }
-    // What stands after any status: the front of the text that the sink took, but for an audit, and the files, but for a run; their promises say what becomes of them.
-    ensures prefix { IsNoAudit (map string_bytes words.now) → IfSome (O.contents out.old) (λ had. (n : ℕ) × (O.contents out.new ≡ Some (had ++ take n (text_of result.history.items)))) }
+    // What stands after any status: the front of the text that the sink took, but for an audit and a generated script, and the files, but for a run; their promises say what becomes of them.
+    ensures prefix { IsNoAudit (map string_bytes words.now) → IsNoMake (map string_bytes words.now) → IfSome (O.contents out.old) (λ had. (n : ℕ) × (O.contents out.new ≡ Some (had ++ take n (text_of result.history.items)))) }
     ensures files { IsNoRun (map string_bytes words.now) → K.files shelf.new ≡ K.files shelf.old }
     // A status that is decided before the first call leaves no history and prints nothing; one that is decided before the disk is touched leaves the disk.
     ensures silent { IsSilent result.status → (result.history.items ≡ []) × (O.contents out.new ≡ O.contents out.old) }
@@ -417,8 +458,8 @@ pub fn run<R: Threads + Wait + Sync, K: Shelf, O: Sink, D: Disk, G: Gate>(
     // Usage comes exactly where the words are refused.
     ensures usage { IsRefused (map string_bytes words.now) → result.status ≡ Status.Usage }
     ensures refused { result.status ≡ Status.Usage → IsRefused (map string_bytes words.now) }
-    // What stands after any status: the front of the text that the sink took, but for an audit, and the files, but for a conversion and a run; their promises say what becomes of them.
-    ensures prefix { IsNoAudit (map string_bytes words.now) → IfSome (O.contents out.old) (λ had. (n : ℕ) × (O.contents out.new ≡ Some (had ++ take n (text_of result.history.items)))) }
+    // What stands after any status: the front of the text that the sink took, but for an audit and a generated script, and the files, but for a conversion and a run; their promises say what becomes of them.
+    ensures prefix { IsNoAudit (map string_bytes words.now) → IsNoMake (map string_bytes words.now) → IfSome (O.contents out.old) (λ had. (n : ℕ) × (O.contents out.new ≡ Some (had ++ take n (text_of result.history.items)))) }
     ensures files { IsNoConversion (map string_bytes words.now) → IsNoRun (map string_bytes words.now) → K.files shelf.new ≡ K.files shelf.old }
     // A status that is decided before the first call leaves no history and prints nothing; one that is decided before the disk is touched leaves the disk.
     ensures silent { IsSilent result.status → (result.history.items ≡ []) × (O.contents out.new ≡ O.contents out.old) }

@@ -3,10 +3,12 @@
 ghost use Rattle.std.specs.Prelude.{ℕ, List, ◌≡◌, [], ◌∷◌, length, MatchOption, map, string_bytes, true, false};
 ghost use Rattle.script_lang.specs.Forms.{is_file};
 ghost use Rattle.voice_main.specs.Conversions.{way_word};
-ghost use Rattle.voice_main.specs.Words.{Says, run_command, IsNoRun, IsConversion, IsNoConversion, IsNotes, IsNoNotes, IsAudit, IsNoAudit};
+ghost use Rattle.voice_main.specs.Words.{Says, run_command, IsNoRun, IsConversion, IsNoConversion, IsNotes, IsNoNotes, IsAudit, IsNoAudit, IsMake, IsNoMake};
 ghost use Rattle.voice_main.specs.declared.convert.Way.{Way as WayValue};
 
 use crate::convert::{Conversion, Way};
+use crate::make::Making;
+use crate::numbers::{number, wide_number};
 use script_lang::is_file;
 use voice_units::Name;
 
@@ -127,6 +129,35 @@ pub fn is_audit(words: &[String]) -> bool
         return false;
     };
     verb.as_bytes() == b"audit".as_slice()
+}
+
+// The words `make SEED LINES`.
+fn making_of(verb: &[u8], seed: &[u8], lines: &[u8]) -> Option<Making>
+    ensures { MatchOption result (IsNoMake (verb.now ∷ seed.now ∷ lines.now ∷ [])) (λ m. IsMake (verb.now ∷ seed.now ∷ lines.now ∷ []) m.seed m.lines) }
+{
+    if verb != b"make".as_slice() {
+        return None;
+    }
+    let Some(seed) = wide_number(seed) else {
+        return None;
+    };
+    let Some(lines) = number(lines) else {
+        return None;
+    };
+    if lines < 1 || lines > 65535 {
+        return None;
+    }
+    Some(Making { seed, lines })
+}
+
+/// The generated script that the words ask for; `None` exactly for words that ask for none.
+pub fn make_words(words: &[String]) -> Option<Making>
+    ensures { MatchOption result (IsNoMake (map string_bytes words.now)) (λ m. IsMake (map string_bytes words.now) m.seed m.lines) }
+{
+    let [verb, seed, lines] = words else {
+        return None;
+    };
+    making_of(verb.as_bytes(), seed.as_bytes(), lines.as_bytes())
 }
 
 // The way of that word.
