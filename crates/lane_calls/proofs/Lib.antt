@@ -4,4 +4,5 @@ pub mod Counting
 pub mod HeldAgain
 pub mod LetGo
 pub mod Served
+pub mod Residing
 pub mod Showing

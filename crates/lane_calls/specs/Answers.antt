@@ -10,10 +10,11 @@
 --     HaveForgotten t lanes after, IsLetGo passage old new      frames forget the blocks that nothing uses;  a passage is let go
 --     IsTold turn old lanes new after told      what is done with what became of a lane's first job
 --     HasBytes bytes block more jobs fed      the lease has the bytes of the window
+--     HoldsWindow block window resident fed      frames hold the blocks of the window that is handed out
 --     IsHandedOut pool lane fed      the lease of a window was just handed out
 --     BringsBack lanes lane len fed, HasStopped fed, KeepsLease old one new fed      the window that came back was out;  the first job was stopped;  a lease that came back is spent
 --     IsStopped fill pledged takings b s tapes call made old lanes new after result      what a Stop comes to
-use Rattle.std.specs.Prelude.{◌≡◌, ℕ, ◌+◌, ◌<◌, ◌≤◌, Bool, true, false, List, [], ◌∷◌, length, map, Some, None, is_some, Result, Ok, Err}
+use Rattle.std.specs.Prelude.{◌≡◌, ℕ, ◌+◌, ◌/◌, ◌<◌, ◌≤◌, Bool, true, false, List, [], ◌∷◌, length, map, Option, Some, None, is_some, Result, Ok, Err}
 use Rattle.voice_units.specs.declared.pieces.Piece.{Piece}
 use Rattle.voice_units.specs.Spots.{Spot, spots_of, samples_in}
 use Rattle.voice_model.specs.Samples.{Tagged}
@@ -31,7 +32,9 @@ use Rattle.edits.specs.Tables.{pieces_here}
 use Rattle.frame_pool.specs.Pool.{Identity, LeaseState}
 use Rattle.play_queue.specs.declared.jobs.Job as queue
 use Rattle.play_queue.specs.Queued.{lane_of}
-use Rattle.playing.specs.Frames.{AreUsed, uses_of, Forgets}
+use Rattle.voice_model.specs.Valid.{Every}
+use Rattle.playing.specs.declared.blocks.Block.{Block}
+use Rattle.playing.specs.Frames.{AreUsed, uses_of, Forgets, is_resident}
 use Rattle.playing.specs.Held.{LetsGo}
 use Rattle.playing.specs.Lanes.{LanesState, window_at, next_window}
 use Rattle.playing.specs.Windows.{byte_in}
@@ -126,6 +129,11 @@ IsTold turns.Fault old lanes new after told = (told ≡ feds.Fault) × (new ≡ 
 abbrev pub HasBytes : (ℕ → ℕ → List ℕ) → ℕ → ℕ → List queue.Job → Fed → Type 0
 HasBytes bytes block more jobs (feds.Window at lease) = lease.samples ≡ map (byte_in bytes block) (spots_of (next_window block more jobs))
 HasBytes bytes block more jobs _ = Unit {0}
+
+-- frames hold the blocks of all places of the window, if one is handed out
+abbrev pub HoldsWindow : ℕ → List Piece → List (Option Block) → Fed → Type 0
+HoldsWindow block window resident (feds.Window at lease) = Every (λ (x : Spot). is_resident resident x.file (x.place / block) ≡ true) (spots_of window)
+HoldsWindow block window resident _ = Unit {0}
 
 -- the lease of a window, if there is one, was just handed out on a lane: it is of this pool, live and not taken back, and its player saw no hint
 abbrev pub IsHandedOut : Identity → ℕ → Fed → Type 0

@@ -16,11 +16,12 @@ ghost use Rattle.running_tables.specs.Running.{Runs};
 ghost use Rattle.next_ropes.specs.Addresses.{KeepsAddresses};
 ghost use Rattle.frame_pool.specs.Pool.{block_of, spent};
 ghost use Rattle.play_queue.specs.Queued.{lane_of};
-ghost use Rattle.playing.specs.Frames.{HasRead, HoldsBytes, AreOnDisk, missing};
+ghost use Rattle.playing.specs.Frames.{HasRead, HoldsBytes, AreOnDisk, AreUsed, missing, uses_of};
 ghost use Rattle.playing.specs.Held.{held_by};
-ghost use Rattle.playing.specs.Lanes.{next_window, IsBack};
+ghost use Rattle.playing.specs.Lanes.{next_window, stopped_at, IsBack};
+ghost use Rattle.playing.specs.Moved.{MovesBlocks};
 ghost use Rattle.lane_calls.specs.Lanes.{ShowsLanes, Stands, ArePledged};
-ghost use Rattle.lane_calls.specs.Answers.{IsServed, StaysUnfed, MayFeed, MayEnd, IsTold, HasBytes, IsHandedOut, BringsBack, HasStopped, KeepsLease};
+ghost use Rattle.lane_calls.specs.Answers.{IsServed, StaysUnfed, MayFeed, MayEnd, IsTold, HasBytes, HoldsWindow, IsHandedOut, BringsBack, HasStopped, KeepsLease};
 
 use crate::Fed;
 use frame_pool::Lease;
@@ -105,8 +106,13 @@ pub fn feed<D: Disk, L: Ledger>(
     ensures refused { IfOk result (StaysUnfed parts.old lanes.old parts.new lanes.new) }
     ensures fault { result ≡ Ok Fed.Fault → HasRisen (D.told disk.old).faults (D.told disk.new).faults }
     ensures made { HasRead (missing shape.now.block lanes.old.frames.resident (next_window shape.now.block 0 (lane_of lanes.old.queues lane))) (D.told disk.old) (D.told disk.new) }
+    ensures still { stopped_at (lane_of lanes.old.queues lane) ≡ true → disk.new ≡ disk.old }
     ensures bytes { IsTrue (D.told disk.old).honest → (bytes : ℕ → ℕ → List ℕ) → AreOnDisk bytes shape.now (D.told disk.old).bytes parts.old.blocks.holders → HoldsBytes bytes lanes.old.frames → HoldsBytes bytes lanes.new.frames }
     ensures samples { IsTrue (D.told disk.old).honest → (bytes : ℕ → ℕ → List ℕ) → AreOnDisk bytes shape.now (D.told disk.old).bytes parts.old.blocks.holders → HoldsBytes bytes lanes.old.frames → IfOk result (HasBytes bytes shape.now.block 0 (lane_of lanes.old.queues lane)) }
+    // Frames hold the blocks of the window that is handed out.
+    ensures holds { IfOk result (HoldsWindow shape.now.block (next_window shape.now.block 0 (lane_of lanes.old.queues lane)) lanes.new.frames.resident) }
+    // A block leaves its frame only for one of the window that was in none, or as nothing uses it.
+    ensures moves { MovesBlocks (uses_of parts.new.ropes) shape.now.block (next_window shape.now.block 0 (lane_of lanes.old.queues lane)) lanes.old.frames.resident lanes.new.frames.resident }
     ensures fresh { IfOk result (IsHandedOut lanes.old.frames.keeper.pool lane) }
     ensures err { OnErr result ((parts.new ≡ parts.old) × (lanes.new.queues ≡ lanes.old.queues)) }
     ensures stays { (fill : Spot → Tagged) (pledged : List (List Piece)) (takings : List ℕ) (made : ℕ) (b : Rebuilt) (s : State) → Stands fill pledged takings parts.old lanes.old made b s → OnErr result (Stands fill pledged takings parts.new lanes.new made b s) }
@@ -151,8 +157,13 @@ pub fn serve<D: Disk, L: Ledger>(
     ensures lease { IfOk result (KeepsLease lease.old (if lease.old.taken then lease.old else spent lease.old) lease.new) }
     ensures fault { result ≡ Ok Fed.Fault → HasRisen (D.told disk.old).faults (D.told disk.new).faults }
     ensures made { HasRead (missing shape.now.block lanes.old.frames.resident (next_window shape.now.block heard (lane_of lanes.old.queues lane))) (D.told disk.old) (D.told disk.new) }
+    ensures still { stopped_at (lane_of lanes.old.queues lane) ≡ true → disk.new ≡ disk.old }
     ensures bytes { IsTrue (D.told disk.old).honest → (bytes : ℕ → ℕ → List ℕ) → AreOnDisk bytes shape.now (D.told disk.old).bytes parts.old.blocks.holders → HoldsBytes bytes lanes.old.frames → HoldsBytes bytes lanes.new.frames }
     ensures samples { IsTrue (D.told disk.old).honest → (bytes : ℕ → ℕ → List ℕ) → AreOnDisk bytes shape.now (D.told disk.old).bytes parts.old.blocks.holders → HoldsBytes bytes lanes.old.frames → IfOk result (HasBytes bytes shape.now.block heard (lane_of lanes.old.queues lane)) }
+    // Frames hold the blocks of the window that is handed out.
+    ensures holds { IfOk result (HoldsWindow shape.now.block (next_window shape.now.block heard (lane_of lanes.old.queues lane)) lanes.new.frames.resident) }
+    // A block leaves its frame only for one of the window that was in none, or as nothing uses it.
+    ensures moves { AreUsed (uses_of parts.old.ropes) lanes.old.frames → MovesBlocks (uses_of parts.new.ropes) shape.now.block (next_window shape.now.block heard (lane_of lanes.old.queues lane)) lanes.old.frames.resident lanes.new.frames.resident }
     ensures fresh { IfOk result (IsHandedOut lanes.old.frames.keeper.pool lane) }
     ensures err { OnErr result ((parts.new ≡ parts.old) × (lanes.new.queues ≡ lanes.old.queues) × (lease.new ≡ (if lease.old.taken then lease.old else spent lease.old))) }
     ensures stays { (fill : Spot → Tagged) (pledged : List (List Piece)) (takings : List ℕ) (made : ℕ) (b : Rebuilt) (s : State) → Stands fill pledged takings parts.old lanes.old made b s → OnErr result (Stands fill pledged takings parts.new lanes.new made b s) }

@@ -1,6 +1,6 @@
 //! Stop: every job of a lane is stopped.
 
-ghost use Rattle.std.specs.Prelude.{◌≡◌, ℕ, ◌+◌, ◌≤◌, List, length};
+ghost use Rattle.std.specs.Prelude.{◌≡◌, ℕ, ◌+◌, ◌≤◌, List, length, map, OnOk, OnErr};
 ghost use Rattle.voice_units.specs.declared.Piece.{Piece};
 ghost use Rattle.voice_units.specs.Spots.{Spot};
 ghost use Rattle.voice_units.specs.Blocks.{BlockPair};
@@ -10,7 +10,7 @@ ghost use Rattle.voice_model.specs.Replay.{Rebuilt};
 ghost use Rattle.voice_model.specs.declared.calls.Call.TheVariants as calls;
 ghost use Rattle.rope_table.specs.Table.{Counts, uses_at};
 ghost use Rattle.next_ropes.specs.Addresses.{KeepsAddresses};
-ghost use Rattle.playing.specs.Frames.{HoldsBytes};
+ghost use Rattle.playing.specs.Frames.{HoldsBytes, if_used, uses_of};
 ghost use Rattle.playing.specs.Held.{held_by, held_in, stretch_count};
 ghost use Rattle.play_queue.specs.Queued.{lane_of};
 ghost use Rattle.lane_calls.specs.Lanes.{Stands, ArePledged};
@@ -40,6 +40,9 @@ pub fn stop<L: Ledger>(
     ensures addresses { KeepsAddresses parts.old.blocks.holders parts.new.blocks.holders }
     ensures uses { (q : BlockPair) → uses_at parts.new.ropes q ≤ uses_at parts.old.ropes q }
     ensures interests { parts.new.interests ≡ parts.old.interests }
+    // Frames forget the blocks that nothing uses any more, and hold the others.
+    ensures forgets { OnOk result (lanes.new.frames.resident ≡ map (if_used (uses_of parts.new.ropes)) lanes.old.frames.resident) }
+    ensures err { OnErr result ((parts.new ≡ parts.old) × (lanes.new ≡ lanes.old)) }
     ensures pool { lanes.new.frames.keeper.pool ≡ lanes.old.frames.keeper.pool }
     ensures moment { parts.new.moment ≡ parts.old.moment }
     ensures next { parts.new.next ≡ parts.old.next }

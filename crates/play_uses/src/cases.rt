@@ -72,21 +72,25 @@ const CASES: &[(&str, &[Told])] = &[
             ),
         ],
     ),
-    // The passage keeps its eight blocks until the job has ended, though its rope is gone and the other eight are recorded over.
+    // The passage keeps its eight blocks until the job has ended, though its rope is gone and the other eight are recorded over; then frames forget them.
     (
         "a rope that is swept while it is played",
         &[
             (Step::Record(SIGNS, 64), "rope 1 length 64\n"),
             (Step::Play(0, 1, 0, 64), "job 1\n"),
+            (Step::Resident(1, &[]), ""),
             (Step::Feed(0), "window 0 32\n"),
             (Step::Advance(60), "done\n"),
             (Step::Sweep(9), "swept 0 rows 1 ropes 1\n"),
             (Step::Record(LOUD, 64), "rope 2 length 64\n"),
             (Step::Record(LOUD, 1), "no no-room 1 0\n"),
+            (Step::Resident(1, &[0, 1, 2, 3]), ""),
             (Step::Copy(0, EARLY), ""),
             (Step::Serve(0, 32), "window 32 32\n"),
+            (Step::Resident(1, &[4, 5, 6, 7]), ""),
             (Step::Copy(0, LATE), ""),
             (Step::Serve(0, 32), "ended 1 64\n"),
+            (Step::Resident(1, &[]), ""),
             (Step::Record(LOUD, 1), "rope 3 length 1\n"),
         ],
     ),

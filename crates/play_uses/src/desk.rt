@@ -212,6 +212,11 @@ impl Desk {
         self.store.history()
     }
 
+    /// Whether a frame holds a block of a voice file.
+    pub fn resident(&self, file: RopeId, index: u32) -> bool {
+        self.store.resident(file, index)
+    }
+
     /// How many blocks nothing uses.
     pub fn free(&self) -> u32 {
         self.store.free()

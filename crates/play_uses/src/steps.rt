@@ -42,6 +42,8 @@ pub enum Step {
     DeviceCalls(u64),
     /// So many blocks are free.
     Free(u32),
+    /// Of the first 16 blocks of a voice file frames hold just these.
+    Resident(u64, &'static [u32]),
 }
 
 /// A step, and the replies of the calls that it makes, a line each.
@@ -122,6 +124,25 @@ fn assert_copied(
     Ok(())
 }
 
+// Asserts which of the first blocks of a voice file frames hold.
+fn assert_resident(
+    rt: &impl Abort,
+    alloc: Global,
+    desk: &Desk,
+    file: u64,
+    wanted: &[u32],
+) -> Result<(), Fail> {
+    let file = rope(file)?;
+    let mut held = Vec::new(alloc);
+    for index in 0..16 {
+        if desk.resident(file, index) {
+            held.push(index)?;
+        }
+    }
+    assert!(rt; held.as_slice() == wanted);
+    Ok(())
+}
+
 // Takes a step.
 fn take(rt: &impl Abort, alloc: Global, desk: &mut Desk, step: Step) -> Result<(), Fail> {
     match step {
@@ -155,6 +176,7 @@ fn take(rt: &impl Abort, alloc: Global, desk: &mut Desk, step: Step) -> Result<(
             assert_eq!(rt; desk.free(), count);
             Ok(())
         }
+        Step::Resident(file, wanted) => assert_resident(rt, alloc, desk, file, wanted),
     }
 }
 

@@ -144,7 +144,7 @@ get_slice (y ∷ xs) zero x low at = ap Some (sym at)
 get_slice (y ∷ xs) (suc i) x low at = get_slice xs i x (omega arith) at
 
 -- a stretch that is ready is in a frame
-holder_found : (resident : List (Option Block)) (f : ℕ) (b : Block) → resident_at resident f ≡ Some b → is_resident resident b.file b.index ≡ true
+pub holder_found : (resident : List (Option Block)) (f : ℕ) (b : Block) → resident_at resident f ≡ Some b → is_resident resident b.file b.index ≡ true
 holder_found [] f b at = cc
 holder_found (o ∷ resident) zero b at = ap (λ (x : Option Block). holds b.file b.index x || is_resident resident b.file b.index) at ∙ ap (λ t. t || is_resident resident b.file b.index) (ap₂ (λ x y. x && y) (eq-eqb b.file b.file refl) (eq-eqb b.index b.index refl))
 holder_found (o ∷ resident) (suc f) b at = ap (λ t. holds b.file b.index o || t) (holder_found resident f b at) ∙ last (holds b.file b.index o)

@@ -33,7 +33,7 @@ kept_by uses (Some d) b e = either (nat_lt 0 (uses d.file d.index)) refl e
     either true h k = let same : d ≡ b = cc in (k, subst (λ (x : Block). 0 < uses x.file x.index) same (ltb-true 0 (uses d.file d.index) h))
     either false h k = cc
 
-get_map : (uses : ℕ → ℕ → ℕ) (xs : List (Option Block)) (f : ℕ) → resident_at (map (if_used uses) xs) f ≡ if_used uses (resident_at xs f)
+pub get_map : (uses : ℕ → ℕ → ℕ) (xs : List (Option Block)) (f : ℕ) → resident_at (map (if_used uses) xs) f ≡ if_used uses (resident_at xs f)
 get_map uses [] f = refl
 get_map uses (x ∷ xs) zero = refl
 get_map uses (x ∷ xs) (suc f) = get_map uses xs f

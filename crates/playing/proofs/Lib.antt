@@ -13,3 +13,4 @@ pub mod Served
 pub mod Letting
 pub mod Holding
 pub mod Feeding
+pub mod Moved

@@ -4,3 +4,4 @@ pub mod Lanes
 pub mod Shown
 pub mod Fed
 pub mod Held
+pub mod Moved

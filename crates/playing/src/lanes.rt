@@ -349,6 +349,7 @@ impl Lanes {
         ensures made { HasRead (missing shape.now.block self.old.frames.resident (next_window shape.now.block more (lane_of self.old.queues lane))) (D.told disk.old) (D.told disk.new) }
         ensures still { IsOver more (lane_of self.old.queues lane) → disk.new ≡ disk.old }
         ensures spare { IsOver more (lane_of self.old.queues lane) → IsOk result }
+        ensures stays { IsOver more (lane_of self.old.queues lane) → self.new.frames.resident ≡ self.old.frames.resident }
         ensures fed { IfOk result (λ fed. FedTo shape.now.block more lane fed self.old self.new) }
         ensures fault { result ≡ Ok Fed.Fault → HasRisen (D.told disk.old).faults (D.told disk.new).faults }
         ensures frames { IsSentTo shape.now.block (next_window shape.now.block more (lane_of self.old.queues lane)) lane self.old.frames self.new.frames }
@@ -439,6 +440,7 @@ impl Lanes {
         ensures made { HasRead (missing shape.now.block self.old.frames.resident (next_window shape.now.block heard (lane_of self.old.queues lane))) (D.told disk.old) (D.told disk.new) }
         ensures still { IsOver heard (lane_of self.old.queues lane) → disk.new ≡ disk.old }
         ensures spare { lease.old.taken ≡ false → IsOver heard (lane_of self.old.queues lane) → IsOk result }
+        ensures stays { IsOver heard (lane_of self.old.queues lane) → self.new.frames.resident ≡ self.old.frames.resident }
         ensures fed { IfOk result (λ fed. FedTo shape.now.block heard lane fed self.old self.new) }
         // It brings back the window that is out.
         ensures window { IsOk result → (0 < window_at (lane_of self.old.queues lane)) × (window_at (lane_of self.old.queues lane) ≡ lease.old.len) }

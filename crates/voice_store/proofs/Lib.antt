@@ -34,6 +34,7 @@ pub mod Switched
 pub mod Taking
 pub mod Tried
 pub mod Turned
+pub mod Residing
 pub mod Windowed
 pub mod Written
 pub mod Heard

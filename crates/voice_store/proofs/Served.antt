@@ -1,5 +1,5 @@
 -- A Feed in the store.
-use Rattle.std.proofs.Common.{◌≡◌, ◌⊎◌, inl, inr, ℕ, ◌+◌, ◌<◌, ◌≤◌, ◌==◌, Bool, true, false, cond, ◌||◌, List, [], ◌∷◌, ◌++◌, map, length, Option, Some, None, IsTrue, refl, sym, ◌∙◌, ap, subst, arith}
+use Rattle.std.proofs.Common.{◌≡◌, ◌⊎◌, inl, inr, ℕ, ◌+◌, ◌/◌, ◌<◌, ◌≤◌, ◌==◌, Bool, true, false, cond, ◌||◌, List, [], ◌∷◌, ◌++◌, map, length, Option, Some, None, IsTrue, refl, sym, ◌∙◌, ap, subst, arith}
 use Rattle.std.specs.Prelude.{nat_lt, is_none, ◌&&◌, Result, Ok, Err, IfOk, OnErr}
 use Rattle.std.proofs.lemmas.Bool.{le-leb}
 use Rattle.std.proofs.lemmas.List.{get_or-set_same}
@@ -8,10 +8,10 @@ use Rattle.voice_units.specs.declared.shapes.Shape.{Shape}
 use Rattle.voice_units.specs.Spots.{Spot, spots_of, slice, window}
 use Rattle.voice_units.specs.Blocks.{BlockPair}
 use Rattle.voice_outside.specs.Disk.{Told}
-use Rattle.voice_model.specs.Samples.{Tagged, spots_in_rope}
+use Rattle.voice_model.specs.Samples.{Tagged, spots_in_rope, spot_of}
 use Rattle.voice_model.specs.State.{State, LaneState, Job, quiet_lane, lane_at}
 use Rattle.voice_model.specs.Step.{Outcome, outcome_of, refusal, reply_of, reply_by, on_lanes, with_jobs, after_reply, windows_home, brought_back, heard_more, served, reply_of_feed, first_job, first_of, when, window_out, window_of, state_by, state_after, BringsItsWindow, MayReply, IsReply}
-use Rattle.voice_model.specs.Valid.{IsState}
+use Rattle.voice_model.specs.Valid.{IsState, Every}
 use Rattle.voice_model.specs.Replay.{Rebuilt}
 use Rattle.voice_model.specs.declared.calls.Call.{Call}
 use Rattle.voice_model.specs.declared.calls.Call.TheVariants as calls
@@ -30,11 +30,13 @@ use Rattle.interest_table.specs.Table as rows
 use Rattle.frame_pool.specs.Pool.{LeaseState}
 use Rattle.play_queue.specs.declared.jobs.Job as queue
 use Rattle.play_queue.specs.Queued.{lane_of}
-use Rattle.playing.specs.Frames.{HasRead, HoldsBytes, AreOnDisk}
+use Rattle.playing.specs.declared.blocks.Block.{Block}
+use Rattle.playing.specs.Frames.{HasRead, HoldsBytes, AreOnDisk, is_resident}
 use Rattle.playing.specs.Lanes.{LanesState, next_window, window_at}
 use Rattle.playing.specs.Shown.{shown_job, more_of}
 use Rattle.playing.specs.Windows.{byte_in}
 use Rattle.lane_calls.specs.Lanes.{ShowsLanes, Stands, ArePledged}
+use Rattle.lane_calls.specs.Answers as answers
 use Rattle.lane_calls.specs.Answers.{IsAnswered, IsServed, StaysUnfed, HasBytes, KeepsLease}
 use Rattle.lane_calls.proofs.Asked.{lane_unknown, lane_known, not_le}
 use Rattle.lane_calls.specs.declared.outcomes.Fed.{Fed}
@@ -49,11 +51,12 @@ use Rattle.voice_store.specs.Facts.{IsFault, entry_of}
 use Rattle.voice_store.specs.Shown.{FaultsCover}
 use Rattle.voice_store.proofs.Faults.{covers_answer}
 use Rattle.voice_store.specs.Feeding.{told, first_passage, passage_at, HasSamples}
+use Rattle.voice_store.specs.Residing.{HoldsWindow}
 use Rattle.voice_store.specs.Playing.{bytes_by, PassagesBelow, NoneRecords, MovesLanes}
 use Rattle.voice_store.specs.Stood.{tapes_of, last_of, IsSure, IsUnsure, Stood}
 use Rattle.voice_store.proofs.Refused.{spots_again, refused_plain, wrong}
 use Rattle.voice_store.proofs.Entries.{stood_noted}
-use Rattle.voice_store.proofs.Windowed.{on_disk, heard_of, window_told, window_samples}
+use Rattle.voice_store.proofs.Windowed.{on_disk, heard_of, window_told, window_filled, bytes_of_spots}
 use Rattle.voice_store.proofs.Queued.{JobsBelow, below_at, below_set, unrecorded_set, stood_unmoved}
 use Rattle.voice_store.proofs.Turned.{stood_stands, stood_turned}
 
@@ -331,41 +334,68 @@ pub home_jobs : (s : State) (lane : ℕ) (back : Option ℕ) → lane < length s
 home_jobs s lane None low = refl
 home_jobs s lane (Some m) low = ap (λ (l : LaneState). l.jobs) (get_or-set_same s.lanes lane (with_jobs (lane_at s lane) (heard_more m (lane_at s lane).jobs)) quiet_lane low)
 
+-- a frame holds the block of a sample
+abbrev IsHeldAt : ℕ → List (Option Block) → Tagged → Type 0
+IsHeldAt block resident t = is_resident resident t.file (t.place / block) ≡ true
+
+places_filled : (fill : Spot → Tagged) → ((x : Spot) → spot_of (fill x) ≡ x) → (block : ℕ) (resident : List (Option Block)) (ss : List Spot) → Every (λ (x : Spot). is_resident resident x.file (x.place / block) ≡ true) ss → Every (IsHeldAt block resident) (map fill ss)
+places_filled fill spots block resident [] holds = tt
+places_filled fill spots block resident (x ∷ ss) holds =
+    (ap (λ (y : Spot). is_resident resident y.file (y.place / block)) (spots x) ∙ holds.0, places_filled fill spots block resident ss holds.1)
+
 module _ (fill : Spot → Tagged) (lanes : LanesState) (made : ℕ) (s : State) (tapes : List (List ℕ)) (lane block : ℕ) (back : Option ℕ) (shows : ShowsLanes fill lanes made s) (same : block ≡ s.shape.block) (some : 0 < block) where
-  window_of_job : (at : ℕ) (lease : LeaseState) → refusal s tapes (calls.Feed lane back) ≡ None → reply_of s tapes (calls.Feed lane back) ≡ replies.Window at lease.len
-      → lease.samples ≡ map (byte_in (bytes_by fill block) block) (spots_of (next_window block (more_of back) (lane_of lanes.queues lane))) → lease.samples ≡ map (λ (t : Tagged). t.byte) (slice (passage_at s lane) at lease.len)
-  window_of_job at lease free replied samples = by (lane_of lanes.queues lane) (shows.jobs lane low) samples
+  -- the places of the next window, filled in, are those of the first job's passage from where it begins
+  window_places : (at n : ℕ) → refusal s tapes (calls.Feed lane back) ≡ None → reply_of s tapes (calls.Feed lane back) ≡ replies.Window at n
+      → map fill (spots_of (next_window block (more_of back) (lane_of lanes.queues lane))) ≡ slice (passage_at s lane) at n
+  window_places at n free replied = by (lane_of lanes.queues lane) (shows.jobs lane low)
     where
       low : lane < length s.lanes
       low = let known = known_lane s tapes lane back free in let shape = shows.shape in let many = shows.many in omega (arith, known, shape, many)
 
-      answer : reply_of_feed s.shape.block (first_job (heard_of back (lane_at s lane).jobs)) ≡ replies.Window at lease.len
+      answer : reply_of_feed s.shape.block (first_job (heard_of back (lane_at s lane).jobs)) ≡ replies.Window at n
       answer = feed_reply back low replied
         where
-          feed_reply : (o : Option ℕ) → lane < length s.lanes → reply_of s tapes (calls.Feed lane o) ≡ replies.Window at lease.len → reply_of_feed s.shape.block (first_job (heard_of o (lane_at s lane).jobs)) ≡ replies.Window at lease.len
+          feed_reply : (o : Option ℕ) → lane < length s.lanes → reply_of s tapes (calls.Feed lane o) ≡ replies.Window at n → reply_of_feed s.shape.block (first_job (heard_of o (lane_at s lane).jobs)) ≡ replies.Window at n
           feed_reply o there e = ap (λ (js : List Job). reply_of_feed s.shape.block (first_job js)) (sym (home_jobs s lane o there)) ∙ e
 
-      by : (jobs : List queue.Job) → (lane_at s lane).jobs ≡ map (shown_job fill) jobs → lease.samples ≡ map (byte_in (bytes_by fill block) block) (spots_of (next_window block (more_of back) jobs))
-          → lease.samples ≡ map (λ (t : Tagged). t.byte) (slice (passage_at s lane) at lease.len)
-      by [] are is = absurd (none back (ap (λ (js : List Job). reply_of_feed s.shape.block (first_job (heard_of back js))) (sym are) ∙ answer))
+      by : (jobs : List queue.Job) → (lane_at s lane).jobs ≡ map (shown_job fill) jobs → map fill (spots_of (next_window block (more_of back) jobs)) ≡ slice (passage_at s lane) at n
+      by [] are = absurd (none back (ap (λ (js : List Job). reply_of_feed s.shape.block (first_job (heard_of back js))) (sym are) ∙ answer))
         where
-          none : (o : Option ℕ) → ¬ (reply_of_feed s.shape.block (first_job (heard_of o [])) ≡ replies.Window at lease.len)
+          none : (o : Option ℕ) → ¬ (reply_of_feed s.shape.block (first_job (heard_of o [])) ≡ replies.Window at n)
           none None e = cc
           none (Some m) e = cc
-      by (j ∷ js) are is =
+      by (j ∷ js) are =
           let now = one back (ap (λ (l : List Job). reply_of_feed s.shape.block (first_job (heard_of back l))) (sym are) ∙ answer) in
-          window_samples fill shows.spots block (more_of back) j js at lease.len lease.samples some now.0 (now.1 ∙ ap (λ n. window n (spots_of j.passage) (j.heard + more_of back)) (sym same)) is
-          ∙ ap (λ (l : List Job). map (λ (t : Tagged). t.byte) (slice (first_passage l) at lease.len)) (sym are)
+          window_filled fill block (more_of back) j js at n now.0 (now.1 ∙ ap (λ k. window k (spots_of j.passage) (j.heard + more_of back)) (sym same))
+          ∙ ap (λ (l : List Job). slice (first_passage l) at n) (sym are)
         where
-          one : (o : Option ℕ) → reply_of_feed s.shape.block (first_job (heard_of o (map (shown_job fill) (j ∷ js)))) ≡ replies.Window at lease.len
-              → (at ≡ j.heard + more_of o) × (lease.len ≡ window s.shape.block (spots_of j.passage) (j.heard + more_of o))
+          one : (o : Option ℕ) → reply_of_feed s.shape.block (first_job (heard_of o (map (shown_job fill) (j ∷ js)))) ≡ replies.Window at n
+              → (at ≡ j.heard + more_of o) × (n ≡ window s.shape.block (spots_of j.passage) (j.heard + more_of o))
           one None e =
-              let both = window_told (shown_job fill j) s.shape.block at lease.len e in
+              let both = window_told (shown_job fill j) s.shape.block at n e in
               let zero_more : j.heard ≡ j.heard + 0 = omega arith in
-              (both.0 ∙ zero_more, both.1 ∙ ap (λ ss. window s.shape.block ss j.heard) (spots_again fill shows.spots (spots_of j.passage)) ∙ ap (λ n. window s.shape.block (spots_of j.passage) n) zero_more)
+              (both.0 ∙ zero_more, both.1 ∙ ap (λ ss. window s.shape.block ss j.heard) (spots_again fill shows.spots (spots_of j.passage)) ∙ ap (λ m. window s.shape.block (spots_of j.passage) m) zero_more)
           one (Some m) e =
-              let both = window_told (record (shown_job fill j) { heard = j.heard + m; window = 0 }) s.shape.block at lease.len e in
+              let both = window_told (record (shown_job fill j) { heard = j.heard + m; window = 0 }) s.shape.block at n e in
               (both.0, both.1 ∙ ap (λ ss. window s.shape.block ss (j.heard + m)) (spots_again fill shows.spots (spots_of j.passage)))
+
+  -- so its bytes are those of the passage
+  window_of_job : (at : ℕ) (lease : LeaseState) → refusal s tapes (calls.Feed lane back) ≡ None → reply_of s tapes (calls.Feed lane back) ≡ replies.Window at lease.len
+      → lease.samples ≡ map (byte_in (bytes_by fill block) block) (spots_of (next_window block (more_of back) (lane_of lanes.queues lane))) → lease.samples ≡ map (λ (t : Tagged). t.byte) (slice (passage_at s lane) at lease.len)
+  window_of_job at lease free replied samples =
+      samples ∙ bytes_of_spots fill block some (spots_of (next_window block (more_of back) (lane_of lanes.queues lane))) ∙ ap (map (λ (t : Tagged). t.byte)) (window_places at lease.len free replied)
+
+  -- frames hold the blocks of the window at the places of the first job's passage
+  pub fed_holds : (pledged : List (List Piece)) (takings : List ℕ) (b : Rebuilt) (parts : Parts) (after : LanesState) (resident : List (Option Block)) (fed : Fed) → IsServed fill pledged takings b s tapes (calls.Feed lane back) made parts after fed
+      → answers.HoldsWindow block (next_window block (more_of back) (lane_of lanes.queues lane)) resident fed → HoldsWindow s lane resident fed
+  fed_holds pledged takings b parts after resident (feds.Refused reason) is holds = tt
+  fed_holds pledged takings b parts after resident (feds.Stopped id heard) is holds = tt
+  fed_holds pledged takings b parts after resident (feds.Ended id heard) is holds = tt
+  fed_holds pledged takings b parts after resident (feds.Window at lease) is holds =
+      subst (Every (IsHeldAt s.shape.block resident)) (window_places at lease.len is.unrefused is.replied)
+      (subst (λ n. Every (IsHeldAt n resident) (map fill (spots_of (next_window block (more_of back) (lane_of lanes.queues lane))))) same
+      (places_filled fill shows.spots block resident (spots_of (next_window block (more_of back) (lane_of lanes.queues lane))) holds))
+  fed_holds pledged takings b parts after resident feds.Fault is holds = tt
 
   -- the lease of a window has the samples of the first job's passage
   pub fed_samples : (pledged : List (List Piece)) (takings : List ℕ) (b : Rebuilt) (parts : Parts) (after : LanesState) (fed : Fed) → IsServed fill pledged takings b s tapes (calls.Feed lane back) made parts after fed
@@ -434,6 +464,10 @@ pub covers_fed : (origin old new caller : ℕ) (lane : ℕ) (back : Option ℕ) 
     → IfOk result (λ fed. IsFault (told fed) → HasRisen old new) → FaultsCover origin was old → old ≤ new → FaultsCover origin items new
 covers_fed origin old new caller lane back ack was items (Ok fed) is same cause covers later = let one : Result Reply NoMemory = Ok (told fed) in covers_answer origin old new caller (calls.Feed lane back) ack was items one (inl is) tt cause covers later
 covers_fed origin old new caller lane back ack was items (Err e) is same cause covers later = let one : Result Reply NoMemory = Err e in covers_answer origin old new caller (calls.Feed lane back) ack was items one tt (inl same) tt covers later
+
+-- what frames hold of a window, in a state that is the same
+pub same_holds : (s t : State) (lane : ℕ) (resident : List (Option Block)) (result : Result Fed NoMemory) → t ≡ s → IfOk result (HoldsWindow t lane resident) → IfOk result (HoldsWindow s lane resident)
+same_holds s t lane resident result same has = subst (λ (x : State). IfOk result (HoldsWindow x lane resident)) same has
 
 -- what a lease has, in a state that is the same
 pub same_samples : (s t : State) (lane : ℕ) (result : Result Fed NoMemory) → t ≡ s → IfOk result (HasSamples t lane) → IfOk result (HasSamples s lane)

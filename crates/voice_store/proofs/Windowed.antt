@@ -91,7 +91,7 @@ byte_of fill block some x =
     byte_there fill x.file (x.place / block * block) block (x.place % block) (omega (arith, some))
     ∙ ap (λ m. (fill (record { file = x.file; place = m })).byte) (div-add-mod' x.place block)
 
-bytes_of_spots : (fill : Spot → Tagged) (block : ℕ) → 0 < block → (ss : List Spot) → map (byte_in (bytes_by fill block) block) ss ≡ map (λ (t : Tagged). t.byte) (map fill ss)
+pub bytes_of_spots : (fill : Spot → Tagged) (block : ℕ) → 0 < block → (ss : List Spot) → map (byte_in (bytes_by fill block) block) ss ≡ map (λ (t : Tagged). t.byte) (map fill ss)
 bytes_of_spots fill block some [] = refl
 bytes_of_spots fill block some (x ∷ ss) = ap (λ v. v ∷ map (byte_in (bytes_by fill block) block) ss) (byte_of fill block some x) ∙ ap (λ l. (fill x).byte ∷ l) (bytes_of_spots fill block some ss)
 
@@ -115,13 +115,11 @@ window_told job block at n e = by job.stopped (job.heard == length job.passage) 
     by false true e = let no : ⊥ = cc in absurd no
     by false false e = (let same : at ≡ job.heard = cc in same, let same : n ≡ window block (spots_in_rope job.passage) job.heard = cc in same)
 
--- the bytes of a window are those of the passage from where it begins
-pub window_samples : (fill : Spot → Tagged) (spots : (x : Spot) → spot_of (fill x) ≡ x) (block more : ℕ) (job : queue.Job) (jobs : List queue.Job) (at n : ℕ) (samples : List ℕ) → 0 < block
-    → at ≡ job.heard + more → n ≡ window block (spots_of job.passage) (job.heard + more)
-    → samples ≡ map (byte_in (bytes_by fill block) block) (spots_of (next_window block more (job ∷ jobs))) → samples ≡ map (λ (t : Tagged). t.byte) (slice (map fill (spots_of job.passage)) at n)
-window_samples fill spots block more job jobs at n samples some start many is =
-    is ∙ ap (map (byte_in (bytes_by fill block) block)) (window_spots block (job.heard + more) (spots_of job.passage))
-    ∙ bytes_of_spots fill block some (slice (spots_of job.passage) (job.heard + more) (window block (spots_of job.passage) (job.heard + more)))
-    ∙ ap (λ ss. map (λ (t : Tagged). t.byte) (map fill (slice (spots_of job.passage) (job.heard + more) ss))) (sym many)
-    ∙ ap (λ m. map (λ (t : Tagged). t.byte) (map fill (slice (spots_of job.passage) m n))) (sym start)
-    ∙ ap (map (λ (t : Tagged). t.byte)) (slice_filled fill (spots_of job.passage) at n)
+-- the places of a window, filled in, are those of the passage from where it begins
+pub window_filled : (fill : Spot → Tagged) (block more : ℕ) (job : queue.Job) (jobs : List queue.Job) (at n : ℕ) → at ≡ job.heard + more → n ≡ window block (spots_of job.passage) (job.heard + more)
+    → map fill (spots_of (next_window block more (job ∷ jobs))) ≡ slice (map fill (spots_of job.passage)) at n
+window_filled fill block more job jobs at n start many =
+    ap (map fill) (window_spots block (job.heard + more) (spots_of job.passage))
+    ∙ ap (λ m. map fill (slice (spots_of job.passage) (job.heard + more) m)) (sym many)
+    ∙ ap (λ m. map fill (slice (spots_of job.passage) m n)) (sym start)
+    ∙ slice_filled fill (spots_of job.passage) at n

@@ -13,3 +13,4 @@ pub mod Trying
 pub mod Turns
 pub mod Ways
 pub mod Hearing
+pub mod Residing

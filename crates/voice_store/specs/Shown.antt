@@ -2,20 +2,24 @@
 --     Shown      its disk, the disk as it was opened, what it keeps besides, which is named in this crate alone, and whether memory was wanted since it was opened
 --     history_of s, tapes_in s, block_of s      its history, its tapes, the length of a block
 --     pool_of s, lanes_in s      which pool its leases are of;  how many lanes it has
+--     frames_in s      the block that each frame holds
+--     HasBlock image s file index      a frame holds the bytes that the disk has of a block
 --     HasRoomFor n s      the history takes so many entries more without memory
 --     FaultsCover low history high      there are at most so many entries of faults as faults rose, unless their count is at its end
 --     Stands first origin disk inside wanted      the store was opened in this state, and all its history is legal from it and held; and its entries came in short turns, unless memory was wanted
 --     IsWhole origin disk inside wanted      the store stands for some history
 --     Keeps told first s      the same, of what contracts see
 --     state_of first s      the state after the history
-use Rattle.std.specs.Prelude.{◌≡◌, ℕ, ◌+◌, ◌-◌, ◌^◌, ◌<◌, ◌≤◌, Bool, false, List, count_by, vec_len, vec_capacity}
+use Rattle.std.specs.Prelude.{◌≡◌, ℕ, ◌+◌, ◌-◌, ◌^◌, ◌<◌, ◌≤◌, Bool, false, List, Option, count_by, vec_len, vec_capacity}
 use Rattle.std.specs.Arc.{arc_value}
 use Rattle.voice_outside.specs.Disk.{Told}
 use Rattle.frame_pool.specs.Pool.{Identity}
+use Rattle.playing.specs.declared.blocks.Block.{Block}
 use Rattle.voice_model.specs.State.{State}
 use Rattle.voice_model.specs.declared.calls.Entry.{Entry}
 use Rattle.voice_store.specs.Stood.{Stood, is_fault, last_state, tapes_of}
 use Rattle.voice_store.specs.Turns.{ShortTurns}
+use Rattle.voice_store.specs.Residing.{HoldsBlock}
 use Rattle.voice_store.specs.declared.inside.Inside.{Inside}
 
 pub record Shown (D : Type 0) : Type 0 where
@@ -56,6 +60,14 @@ module _ {D : Type 0} where
   -- which pool its leases are of
   abbrev pub pool_of : Shown D → Identity
   pool_of s = s.inside.lanes.frames.keeper.pool
+
+  -- the block that each frame holds
+  abbrev pub frames_in : Shown D → List (Option Block)
+  frames_in s = s.inside.lanes.frames.resident
+
+  -- a frame holds the bytes that the disk has of a block
+  abbrev pub HasBlock : List ℕ → Shown D → ℕ → ℕ → Type 0
+  HasBlock image s file index = HoldsBlock s.inside.journal.shape image s.inside.parts.blocks.holders s.inside.lanes.frames file index
 
   -- how many lanes it has
   abbrev pub lanes_in : Shown D → ℕ

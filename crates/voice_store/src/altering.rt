@@ -17,6 +17,7 @@ ghost use Rattle.voice_store.specs.Altering.{Weighs, Alters};
 ghost use Rattle.voice_store.specs.Spare.{FitsBehindOthers};
 ghost use Rattle.voice_store.specs.DeviceCalls.{change_calls};
 ghost use Rattle.voice_store.specs.Facts.{Goes, IsFault, Stays, entry_of};
+ghost use Rattle.voice_store.specs.Residing.{KeepsUsed};
 
 use crate::committing::Plan;
 use crate::inside::Inside;
@@ -110,6 +111,7 @@ impl Inside {
         ensures still { OnErr result (disk.new ≡ disk.old) }
         ensures tapes { self.new.tapes ≡ self.old.tapes }
         ensures pool { self.new.lanes.frames.keeper.pool ≡ self.old.lanes.frames.keeper.pool }
+        ensures frames { KeepsUsed self.old self.new }
         ensures stood { (first : State) (t0 : ℕ) → Alters first t0 (D.told disk.old) self.old call ready replies.0 growth → Stood first t0 (D.told disk.new) self.new }
         ensures spare { growth ≡ Growth.NotLonger → 5 + length ready.payload.items + self.old.journal.seat.gate + 1 ≤ self.old.journal.shape.area → IsOk result }
     {
@@ -168,6 +170,7 @@ impl Inside {
         ensures still { OnErr result (disk.new ≡ disk.old) }
         ensures tapes { self.new.tapes ≡ self.old.tapes }
         ensures pool { self.new.lanes.frames.keeper.pool ≡ self.old.lanes.frames.keeper.pool }
+        ensures frames { KeepsUsed self.old self.new }
         ensures stood { (first : State) (t0 : ℕ) → Stood first t0 (D.told disk.old) self.old → Stood first t0 (D.told disk.new) self.new }
         ensures spare { (first : State) (t0 : ℕ) → Stood first t0 (D.told disk.old) self.old → IsTrue (takes_no_memory call) → FitsBehindOthers (last_of first self.old) (tapes_of self.old) call → IsOk result }
     {

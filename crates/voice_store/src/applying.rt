@@ -14,6 +14,7 @@ ghost use Rattle.listening.specs.Looks.{Looked};
 ghost use Rattle.voice_store.specs.DeviceCalls.{change_calls, landing_calls, most_calls};
 ghost use Rattle.voice_store.specs.Turns.{AddsLandingAt, AddsShortly};
 ghost use Rattle.voice_store.specs.Facts.{Adds, AddsLanding, Goes, GoesOn, HasRopes, IsFault, Stays, TakesAreIn, entry_of, hears, only_tells, most_reads};
+ghost use Rattle.voice_store.specs.Residing.{KeepsUsed, KeepsFrames};
 ghost use Rattle.built_calls.specs.Built.{is_built};
 
 use crate::hearing::Sound;
@@ -66,6 +67,7 @@ impl Inside {
         ensures room { vec_len self.new.history < vec_capacity self.new.history }
         ensures tapes { self.new.tapes ≡ self.old.tapes }
         ensures pool { self.new.lanes.frames.keeper.pool ≡ self.old.lanes.frames.keeper.pool }
+        ensures frames { KeepsUsed self.old self.new }
         ensures stood { (first : State) (t0 : ℕ) → Stood first t0 (D.told disk.old) self.old → Stood first t0 (D.told disk.new) self.new }
     {
         if self.doubt.is_none() {
@@ -103,6 +105,7 @@ impl Inside {
         ensures still { OnErr result (disk.new ≡ disk.old) }
         ensures tapes { self.new.tapes ≡ self.old.tapes }
         ensures pool { self.new.lanes.frames.keeper.pool ≡ self.old.lanes.frames.keeper.pool }
+        ensures frames { KeepsUsed self.old self.new }
         ensures stood { (first : State) (t0 : ℕ) → Stood first t0 (D.told disk.old) self.old → Stood first t0 (D.told disk.new) self.new }
         ensures spare { (first : State) (t0 : ℕ) → Stood first t0 (D.told disk.old) self.old → IsTrue (takes_no_memory call) → FitsBehindOthers (last_of first self.old) (tapes_of self.old) call → IsOk result }
     {
@@ -141,6 +144,7 @@ impl Inside {
         ensures still { self.old.doubt ≡ None → OnErr result ((disk.new ≡ disk.old) × (self.new.history.items ≡ self.old.history.items)) }
         ensures tapes { self.new.tapes ≡ self.old.tapes }
         ensures pool { self.new.lanes.frames.keeper.pool ≡ self.old.lanes.frames.keeper.pool }
+        ensures frames { (first : State) (t0 : ℕ) → Stood first t0 (D.told disk.old) self.old → KeepsFrames (landed (last_of first self.old)) (last_of first self.new) self.old.lanes.frames.resident self.new.lanes.frames.resident }
         ensures stood { (first : State) (t0 : ℕ) → Stood first t0 (D.told disk.old) self.old → Stood first t0 (D.told disk.new) self.new }
         ensures spare { self.old.doubt ≡ None → (first : State) (t0 : ℕ) → Stood first t0 (D.told disk.old) self.old → IsTrue (takes_no_memory call) → FitsBehindOthers (last_of first self.old) (tapes_of self.old) call → IsOk result }
     {
@@ -175,6 +179,7 @@ impl Inside {
         ensures calls { (first : State) (t0 : ℕ) → Stood first t0 (D.told disk.old) self.old → (D.told disk.new).calls ≤ (D.told disk.old).calls + most_calls (last_of first self.old) (tapes_of self.old) call }
         ensures tapes { self.new.tapes ≡ self.old.tapes }
         ensures pool { self.new.lanes.frames.keeper.pool ≡ self.old.lanes.frames.keeper.pool }
+        ensures frames { (first : State) (t0 : ℕ) → Stood first t0 (D.told disk.old) self.old → KeepsFrames (landed (last_of first self.old)) (last_of first self.new) self.old.lanes.frames.resident self.new.lanes.frames.resident }
         ensures stood { (first : State) (t0 : ℕ) → Stood first t0 (D.told disk.old) self.old → Stood first t0 (D.told disk.new) self.new }
     {
         self.reserve(2)?;

@@ -19,6 +19,7 @@ ghost use Rattle.voice_store.specs.Ways.{FitsBehind, FitsOther};
 ghost use Rattle.voice_store.specs.Trying.{IsBaseOf, Trying, IsReadyIn, IsPlan, CanGo};
 ghost use Rattle.voice_store.specs.DeviceCalls.{plan_calls};
 ghost use Rattle.voice_store.specs.Facts.{Goes, IsFault, entry_of};
+ghost use Rattle.voice_store.specs.Residing.{KeepsUsed};
 
 use crate::entering::enter;
 use crate::inside::{Doubted, Inside};
@@ -155,6 +156,7 @@ impl Inside {
         ensures items { self.new.history.items ≡ self.old.history.items ++ entry_of caller call result (D.told disk.new).calls ∷ [] }
         ensures tapes { self.new.tapes ≡ self.old.tapes }
         ensures pool { self.new.lanes.frames.keeper.pool ≡ self.old.lanes.frames.keeper.pool }
+        ensures frames { KeepsUsed self.old self.new }
         ensures stood { (first : State) (t0 : ℕ) (b : Rebuilt) (c : Change) (effect : Effect Tagged) → Trying first t0 (D.told disk.old) self.old b next c effect caller call replies.0 → FitsBehind (last_of first self.old) effect → Stood first t0 (D.told disk.new) self.new }
     {
         foundations();
@@ -194,6 +196,7 @@ impl Inside {
         ensures items { self.new.history.items ≡ self.old.history.items ++ entry_of caller call result (D.told disk.new).calls ∷ [] }
         ensures tapes { self.new.tapes ≡ self.old.tapes }
         ensures pool { self.new.lanes.frames.keeper.pool ≡ self.old.lanes.frames.keeper.pool }
+        ensures frames { KeepsUsed self.old self.new }
         ensures stood { (first : State) (t0 : ℕ) (b : Rebuilt) (c : Change) (effect : Effect Tagged) → Trying first t0 (D.told disk.old) self.old b next c effect caller call replies.0 → FitsOther (last_of first self.old) effect → IsBaseOf self.old.journal.shape (acted b c) base.now → Stood first t0 (D.told disk.new) self.new }
     {
         foundations();
@@ -239,6 +242,7 @@ impl Inside {
         ensures items { self.new.history.items ≡ self.old.history.items ++ entry_of caller call result (D.told disk.new).calls ∷ [] }
         ensures tapes { self.new.tapes ≡ self.old.tapes }
         ensures pool { self.new.lanes.frames.keeper.pool ≡ self.old.lanes.frames.keeper.pool }
+        ensures frames { KeepsUsed self.old self.new }
         ensures stood { (first : State) (t0 : ℕ) (b : Rebuilt) (c : Change) (effect : Effect Tagged) → Trying first t0 (D.told disk.old) self.old b next c effect caller call replies.0 → IsPlan self.old.journal (last_of first self.old) effect (acted b c) plan → Stood first t0 (D.told disk.new) self.new }
     {
         match plan {

@@ -18,6 +18,7 @@ ghost use Rattle.voice_store.specs.Trying.{IsPlan, IsReadyIn};
 ghost use Rattle.voice_store.specs.DeviceCalls.{change_calls};
 ghost use Rattle.voice_store.specs.Facts.{Goes, HasRopes, IsFault, entry_of, is_edit};
 ghost use Rattle.voice_store.specs.Keeping.{MakesRope, HasWay};
+ghost use Rattle.voice_store.specs.Residing.{KeepsUsed};
 
 use crate::committing::Plan;
 use crate::inside::Inside;
@@ -97,6 +98,7 @@ impl Inside {
         ensures still { OnErr result (disk.new ≡ disk.old) }
         ensures tapes { self.new.tapes ≡ self.old.tapes }
         ensures pool { self.new.lanes.frames.keeper.pool ≡ self.old.lanes.frames.keeper.pool }
+        ensures frames { KeepsUsed self.old self.new }
         ensures stood { (first : State) (t0 : ℕ) → HasWay first t0 (D.told disk.old) self.old call pieces way → Stood first t0 (D.told disk.new) self.new }
     {
         foundations();
@@ -130,6 +132,7 @@ impl Inside {
         ensures still { OnErr result (disk.new ≡ disk.old) }
         ensures tapes { self.new.tapes ≡ self.old.tapes }
         ensures pool { self.new.lanes.frames.keeper.pool ≡ self.old.lanes.frames.keeper.pool }
+        ensures frames { KeepsUsed self.old self.new }
         ensures stood { (first : State) (t0 : ℕ) → MakesRope first t0 (D.told disk.old) self.old call pieces → Stood first t0 (D.told disk.new) self.new }
     {
         let count = pieces.count();
@@ -164,6 +167,7 @@ impl Inside {
         ensures still { OnErr result (disk.new ≡ disk.old) }
         ensures tapes { self.new.tapes ≡ self.old.tapes }
         ensures pool { self.new.lanes.frames.keeper.pool ≡ self.old.lanes.frames.keeper.pool }
+        ensures frames { KeepsUsed self.old self.new }
         ensures stood { (first : State) (t0 : ℕ) → Stood first t0 (D.told disk.old) self.old → Stood first t0 (D.told disk.new) self.new }
     {
         match self.make(&call)? {

@@ -8,12 +8,13 @@ ghost use Rattle.play_queue.specs.Queued.{lane_of};
 ghost use Rattle.playing.specs.Frames.{HasRead, missing};
 ghost use Rattle.frame_pool.specs.Pool.{spent};
 ghost use Rattle.listening.specs.Looks.{Looked};
-ghost use Rattle.playing.specs.Lanes.{next_window, window_at};
+ghost use Rattle.playing.specs.Lanes.{next_window, stopped_at, window_at};
 ghost use Rattle.lane_calls.specs.Answers.{IsHandedOut, HasStopped};
 ghost use Rattle.voice_store.specs.Feeding.{told, HasSamples};
 ghost use Rattle.voice_store.specs.Stood.{Stood, last_of};
 ghost use Rattle.voice_store.specs.Facts.{IsFault, entry_of};
-ghost use Rattle.voice_store.specs.Turns.{window_blocks};
+ghost use Rattle.voice_store.specs.Turns.{unread_blocks, window_blocks};
+ghost use Rattle.voice_store.specs.Residing.{HoldsWindow, MovesFrames};
 
 use crate::entering::enter;
 use crate::inside::Inside;
@@ -56,7 +57,10 @@ impl Inside {
         ensures err { OnErr result (self.new.history.items ≡ self.old.history.items) }
         ensures cause { IfOk result (λ fed. IsFault (told fed) → HasRisen (D.told disk.old).faults (D.told disk.new).faults) }
         ensures made { HasRead (missing self.old.journal.shape.block self.old.lanes.frames.resident (next_window self.old.journal.shape.block 0 (lane_of self.old.lanes.queues lane))) (D.told disk.old) (D.told disk.new) }
+        ensures still { stopped_at (lane_of self.old.lanes.queues lane) ≡ true → disk.new ≡ disk.old }
         ensures samples { IsTrue (D.told disk.old).honest → (first : State) (t0 : ℕ) → Stood first t0 (D.told disk.old) self.old → IfOk result (HasSamples (last_of first self.old) lane) }
+        ensures holds { (first : State) (t0 : ℕ) → Stood first t0 (D.told disk.old) self.old → IfOk result (HoldsWindow (last_of first self.old) lane self.new.lanes.frames.resident) }
+        ensures moves { (first : State) (t0 : ℕ) → Stood first t0 (D.told disk.old) self.old → MovesFrames (last_of first self.new) self.old.lanes.frames.resident self.new.lanes.frames.resident }
         ensures fresh { IfOk result (IsHandedOut self.old.lanes.frames.keeper.pool lane) }
         ensures tapes { self.new.tapes ≡ self.old.tapes }
         ensures pool { self.new.lanes.frames.keeper.pool ≡ self.old.lanes.frames.keeper.pool }
@@ -93,8 +97,11 @@ impl Inside {
         ensures err { OnErr result (self.new.history.items ≡ self.old.history.items) }
         ensures cause { IfOk result (λ fed. IsFault (told fed) → HasRisen (D.told disk.old).faults (D.told disk.new).faults) }
         ensures looks { Looked 4 (D.told disk.old) (D.told disk.new) }
+        ensures reads { (first : State) (t0 : ℕ) → Stood first t0 (D.told disk.old) self.old → (D.told disk.new).calls ≤ (D.told disk.old).calls + unread_blocks (last_of first self.old) lane None self.old.lanes.frames.resident }
         ensures calls { (first : State) (t0 : ℕ) → Stood first t0 (D.told disk.old) self.old → (D.told disk.new).calls ≤ (D.told disk.old).calls + window_blocks (last_of first self.old) lane None }
         ensures samples { IsTrue (D.told disk.old).honest → (first : State) (t0 : ℕ) → Stood first t0 (D.told disk.old) self.old → IfOk result (HasSamples (last_of first self.old) lane) }
+        ensures holds { (first : State) (t0 : ℕ) → Stood first t0 (D.told disk.old) self.old → IfOk result (HoldsWindow (last_of first self.old) lane self.new.lanes.frames.resident) }
+        ensures moves { (first : State) (t0 : ℕ) → Stood first t0 (D.told disk.old) self.old → MovesFrames (last_of first self.new) self.old.lanes.frames.resident self.new.lanes.frames.resident }
         ensures fresh { IfOk result (IsHandedOut self.old.lanes.frames.keeper.pool lane) }
         ensures tapes { self.new.tapes ≡ self.old.tapes }
         ensures pool { self.new.lanes.frames.keeper.pool ≡ self.old.lanes.frames.keeper.pool }
@@ -141,7 +148,10 @@ impl Inside {
         ensures unrefused { IfOk result (λ fed. (reason : Why) → fed ≢ Fed.Refused reason) }
         ensures cause { IfOk result (λ fed. IsFault (told fed) → HasRisen (D.told disk.old).faults (D.told disk.new).faults) }
         ensures made { HasRead (missing self.old.journal.shape.block self.old.lanes.frames.resident (next_window self.old.journal.shape.block heard (lane_of self.old.lanes.queues lease.old.lane))) (D.told disk.old) (D.told disk.new) }
+        ensures still { stopped_at (lane_of self.old.lanes.queues lease.old.lane) ≡ true → disk.new ≡ disk.old }
         ensures samples { IsTrue (D.told disk.old).honest → (first : State) (t0 : ℕ) → Stood first t0 (D.told disk.old) self.old → IfOk result (HasSamples (last_of first self.old) lease.old.lane) }
+        ensures holds { (first : State) (t0 : ℕ) → Stood first t0 (D.told disk.old) self.old → IfOk result (HoldsWindow (last_of first self.old) lease.old.lane self.new.lanes.frames.resident) }
+        ensures moves { (first : State) (t0 : ℕ) → Stood first t0 (D.told disk.old) self.old → MovesFrames (last_of first self.new) self.old.lanes.frames.resident self.new.lanes.frames.resident }
         ensures fresh { IfOk result (IsHandedOut self.old.lanes.frames.keeper.pool lease.old.lane) }
         ensures tapes { self.new.tapes ≡ self.old.tapes }
         ensures pool { self.new.lanes.frames.keeper.pool ≡ self.old.lanes.frames.keeper.pool }
@@ -192,8 +202,11 @@ impl Inside {
         ensures unrefused { IfOk result (λ fed. (reason : Why) → fed ≢ Fed.Refused reason) }
         ensures cause { IfOk result (λ fed. IsFault (told fed) → HasRisen (D.told disk.old).faults (D.told disk.new).faults) }
         ensures looks { Looked 4 (D.told disk.old) (D.told disk.new) }
+        ensures reads { (first : State) (t0 : ℕ) → Stood first t0 (D.told disk.old) self.old → (D.told disk.new).calls ≤ (D.told disk.old).calls + unread_blocks (last_of first self.old) lease.old.lane (Some heard) self.old.lanes.frames.resident }
         ensures calls { (first : State) (t0 : ℕ) → Stood first t0 (D.told disk.old) self.old → (D.told disk.new).calls ≤ (D.told disk.old).calls + window_blocks (last_of first self.old) lease.old.lane (Some heard) }
         ensures samples { IsTrue (D.told disk.old).honest → (first : State) (t0 : ℕ) → Stood first t0 (D.told disk.old) self.old → IfOk result (HasSamples (last_of first self.old) lease.old.lane) }
+        ensures holds { (first : State) (t0 : ℕ) → Stood first t0 (D.told disk.old) self.old → IfOk result (HoldsWindow (last_of first self.old) lease.old.lane self.new.lanes.frames.resident) }
+        ensures moves { (first : State) (t0 : ℕ) → Stood first t0 (D.told disk.old) self.old → MovesFrames (last_of first self.new) self.old.lanes.frames.resident self.new.lanes.frames.resident }
         ensures fresh { IfOk result (IsHandedOut self.old.lanes.frames.keeper.pool lease.old.lane) }
         ensures tapes { self.new.tapes ≡ self.old.tapes }
         ensures pool { self.new.lanes.frames.keeper.pool ≡ self.old.lanes.frames.keeper.pool }
@@ -211,6 +224,7 @@ impl Inside {
         ensures history { self.new.history ≡ self.old.history }
         ensures tapes { self.new.tapes ≡ self.old.tapes }
         ensures pool { self.new.lanes.frames.keeper.pool ≡ self.old.lanes.frames.keeper.pool }
+        ensures frames { self.new.lanes.frames.resident ≡ self.old.lanes.frames.resident }
         ensures stood { (first : State) (t0 : ℕ) → Stood first t0 (D.told _disk.now) self.old → Stood first t0 (D.told _disk.now) self.new }
     {
         let lane = lease.lane();

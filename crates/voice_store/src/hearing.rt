@@ -14,6 +14,7 @@ ghost use Rattle.listening.specs.Heard.{HavePlaces, ArePlaces, bytes_on};
 ghost use Rattle.voice_store.specs.Stood.{Stood, last_of, tapes_of};
 ghost use Rattle.voice_store.specs.Facts.{IsFault, entry_of, stretches_of};
 ghost use Rattle.voice_store.specs.Hearing.{IsHeardOf, call_for, sounding};
+ghost use Rattle.voice_store.specs.Residing.{KeepsUsed};
 
 use crate::inside::Inside;
 use crate::replies::twice;
@@ -111,6 +112,7 @@ impl Inside {
         ensures err { OnErr result (self.new.history.items ≡ self.old.history.items) }
         ensures tapes { self.new.tapes ≡ self.old.tapes }
         ensures pool { self.new.lanes.frames.keeper.pool ≡ self.old.lanes.frames.keeper.pool }
+        ensures frames { KeepsUsed self.old self.new }
         ensures stood { (first : State) (t0 : ℕ) → Stood first t0 (D.told disk.old) self.old → Stood first t0 (D.told disk.new) self.new }
     {
         let call = call_for(sound, rope);

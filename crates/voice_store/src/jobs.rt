@@ -4,6 +4,7 @@ ghost use Rattle.std.specs.Prelude.{◌≡◌, ◌≤◌, ◌<◌, ◌++◌, ◌
 ghost use Rattle.voice_model.specs.State.{State};
 ghost use Rattle.voice_store.specs.Stood.{Stood};
 ghost use Rattle.voice_store.specs.Facts.{IsFault, entry_of};
+ghost use Rattle.voice_store.specs.Residing.{KeepsUsed};
 
 use crate::entering::enter;
 use crate::inside::Inside;
@@ -41,6 +42,7 @@ impl Inside {
         ensures plain { IfOk result (λ reply. ¬ IsFault reply) }
         ensures tapes { self.new.tapes ≡ self.old.tapes }
         ensures pool { self.new.lanes.frames.keeper.pool ≡ self.old.lanes.frames.keeper.pool }
+        ensures frames { KeepsUsed self.old self.new }
         ensures stood { (first : State) (t0 : ℕ) → Stood first t0 (D.told disk.now) self.old → Stood first t0 (D.told disk.now) self.new }
     {
         if self.made >= LAST_JOB {
@@ -98,6 +100,7 @@ impl Inside {
         ensures plain { ¬ IsFault result }
         ensures tapes { self.new.tapes ≡ self.old.tapes }
         ensures pool { self.new.lanes.frames.keeper.pool ≡ self.old.lanes.frames.keeper.pool }
+        ensures frames { KeepsUsed self.old self.new }
         ensures stood { (first : State) (t0 : ℕ) → Stood first t0 (D.told disk.now) self.old → Stood first t0 (D.told disk.now) self.new }
     {
         let shape = self.journal.shape();
@@ -126,6 +129,7 @@ impl Inside {
         ensures plain { ¬ IsFault result }
         ensures tapes { self.new.tapes ≡ self.old.tapes }
         ensures pool { self.new.lanes.frames.keeper.pool ≡ self.old.lanes.frames.keeper.pool }
+        ensures frames { KeepsUsed self.old self.new }
         ensures stood { (first : State) (t0 : ℕ) → Stood first t0 (D.told disk.now) self.old → Stood first t0 (D.told disk.now) self.new }
     {
         self.stop_by::<D, Brand>(disk, caller, lane, Blank::new(1))

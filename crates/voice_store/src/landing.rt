@@ -17,6 +17,7 @@ ghost use Rattle.voice_store.specs.Trying.{IsReadyIn};
 ghost use Rattle.voice_store.specs.DeviceCalls.{landing_calls};
 ghost use Rattle.voice_store.specs.Facts.{Goes};
 ghost use Rattle.voice_store.specs.Turns.{AddsLandingAt};
+ghost use Rattle.voice_store.specs.Residing.{KeepsUsed};
 
 use crate::entering::enter;
 use crate::inside::{Doubted, Inside};
@@ -57,6 +58,7 @@ impl Inside {
         ensures capacity { vec_capacity self.old.history ≤ vec_capacity self.new.history }
         ensures tapes { self.new.tapes ≡ self.old.tapes }
         ensures pool { self.new.lanes.frames.keeper.pool ≡ self.old.lanes.frames.keeper.pool }
+        ensures frames { KeepsUsed self.old self.new }
         ensures stood { (first : State) (t0 : ℕ) → Stood first t0 (D.told disk.old) self.old → Stood first t0 (D.told disk.new) self.new }
     {
         if self.doubt.is_none() {

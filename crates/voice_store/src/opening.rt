@@ -1,6 +1,6 @@
 //! Opens what a disk keeps.
 
-ghost use Rattle.std.specs.Prelude.{◌≡◌, ◌+◌, ◌-◌, ◌<◌, ◌^◌, ℕ, [], length, slice_get, Some, IsTrue, IfOk, IfErr, OnOk};
+ghost use Rattle.std.specs.Prelude.{◌≡◌, ◌+◌, ◌-◌, ◌<◌, ◌^◌, ℕ, [], length, slice_get, Some, IsTrue, IfOk, IfErr, OnOk, replicate, None};
 ghost use Rattle.voice_outside.specs.Counters.{HasRisen};
 ghost use Rattle.voice_journal.specs.Looks.{Since};
 ghost use Rattle.voice_model.specs.State.{State};
@@ -58,6 +58,7 @@ impl Inside {
         ensures looks { IsTrue (D.told disk.old).honest → OnlyLooked (D.told disk.old) (D.told disk.new) }
         ensures since { IsTrue (D.told disk.old).honest → OnOk result (Since ((D.told disk.old).calls + 1) (D.told disk.new) (λ image. image ≡ (D.told disk.old).bytes)) }
         ensures fields { IfOk result (λ s. (s.tapes ≡ tapes) × (s.history.items ≡ [])) }
+        ensures frames { IfOk result (λ s. (n : ℕ) × (s.lanes.frames.resident ≡ replicate n None)) }
         ensures state { IfOk result (λ s. (first : State) × Stood first ((D.told disk.old).calls + 1) (D.told disk.new) s × (IsTrue (D.told disk.old).honest → opened_from (D.told disk.old).bytes ≡ Some first)) }
         ensures bad { IfErr result (λ e. (place : ℕ) → e ≡ OpenError.BadDisk place → IsTrue (D.told disk.old).honest → reading (D.told disk.old).bytes ≡ Reading.Bad place) }
         ensures fault { IfErr result (λ e. e ≡ OpenError.DiskFault → HasRisen (D.told disk.old).faults (D.told disk.new).faults) }

@@ -20,6 +20,7 @@ ghost use Rattle.voice_store.specs.Trying.{IsPlan};
 ghost use Rattle.voice_store.specs.DeviceCalls.{change_calls};
 ghost use Rattle.voice_store.specs.Facts.{GoesOn, IsFault, entry_of};
 ghost use Rattle.voice_store.specs.Keeping.{HasRoom, HoldsRecording, MakesRecording, recorded_by, refused_by};
+ghost use Rattle.voice_store.specs.Residing.{KeepsUsed};
 
 use crate::committing::Plan;
 use crate::editing::{replies_of, rope_size};
@@ -133,6 +134,7 @@ impl Inside {
         ensures items { self.new.history.items ≡ self.old.history.items ++ entry_of caller (Call.Record take) result (D.told disk.new).calls ∷ [] }
         ensures tapes { self.new.tapes ≡ self.old.tapes }
         ensures pool { self.new.lanes.frames.keeper.pool ≡ self.old.lanes.frames.keeper.pool }
+        ensures frames { KeepsUsed self.old self.new }
         ensures stood { (rope : RopeValue) → next ≡ NextChange.Rope rope → (first : State) (t0 : ℕ) (h : HoldsRecording first t0 (D.told disk.old) self.old take rope) → IsPlan self.old.journal (last_of first self.old) (recorded_by (last_of first self.old) (tapes_of self.old) take) (acted h.makes.stood.b (next_change h.makes.stood.b.form rope)) plan → Stood first t0 (D.told disk.new) self.new }
     {
         foundations();
@@ -167,6 +169,7 @@ impl Inside {
         ensures still { OnErr result (disk.new ≡ disk.old) }
         ensures tapes { self.new.tapes ≡ self.old.tapes }
         ensures pool { self.new.lanes.frames.keeper.pool ≡ self.old.lanes.frames.keeper.pool }
+        ensures frames { KeepsUsed self.old self.new }
         ensures stood { (first : State) (t0 : ℕ) → HasRoom first t0 (D.told disk.old) self.old take way → Stood first t0 (D.told disk.new) self.new }
     {
         let shape = self.journal.shape();
@@ -197,6 +200,7 @@ impl Inside {
         ensures still { OnErr result (disk.new ≡ disk.old) }
         ensures tapes { self.new.tapes ≡ self.old.tapes }
         ensures pool { self.new.lanes.frames.keeper.pool ≡ self.old.lanes.frames.keeper.pool }
+        ensures frames { KeepsUsed self.old self.new }
         ensures stood { (first : State) (t0 : ℕ) → MakesRecording first t0 (D.told disk.old) self.old take → Stood first t0 (D.told disk.new) self.new }
     {
         let shape = self.journal.shape();
@@ -237,6 +241,7 @@ impl Inside {
         ensures still { OnErr result (disk.new ≡ disk.old) }
         ensures tapes { self.new.tapes ≡ self.old.tapes }
         ensures pool { self.new.lanes.frames.keeper.pool ≡ self.old.lanes.frames.keeper.pool }
+        ensures frames { KeepsUsed self.old self.new }
         ensures stood { (first : State) (t0 : ℕ) → Stood first t0 (D.told disk.old) self.old → Stood first t0 (D.told disk.new) self.new }
     {
         let shape = self.journal.shape();

@@ -1,6 +1,6 @@
 //! The store.
 
-ghost use Rattle.std.specs.Prelude.{◌≡◌, ◌≢◌, ◌<◌, ◌≤◌, ◌+◌, ◌-◌, ◌⊎◌, ◌++◌, ◌∷◌, ℕ, [], Some, None, true, false, IsTrue, IsOk, IfOk, IfErr, OnOk, OnErr, length, if◌then◌else◌};
+ghost use Rattle.std.specs.Prelude.{◌≡◌, ◌≢◌, ◌<◌, ◌≤◌, ◌+◌, ◌-◌, ◌⊎◌, ◌++◌, ◌∷◌, ℕ, [], Some, None, true, false, IsTrue, IsOk, IfOk, IfErr, OnOk, OnErr, length, if◌then◌else◌, replicate};
 ghost use Rattle.std.specs.Arc.{arc_value};
 ghost use Rattle.voice_outside.specs.Counters.{HasRisen};
 ghost use Rattle.voice_outside.specs.Disk.{MakesAtMost, Now};
@@ -16,13 +16,16 @@ ghost use Rattle.frame_pool.specs.Pool.{spent};
 ghost use Rattle.tallies.specs.Tallies.{samples_of};
 ghost use Rattle.lane_calls.specs.Answers.{IsHandedOut, HasStopped};
 ghost use Rattle.voice_store.specs.Feeding.{told, HasSamples};
-ghost use Rattle.voice_store.specs.Shown.{Keeps, HasRoomFor, history_of, tapes_in, pool_of, lanes_in, state_of};
+ghost use Rattle.voice_store.specs.Shown.{Keeps, HasBlock, HasRoomFor, history_of, tapes_in, pool_of, lanes_in, frames_in, state_of};
 ghost use Rattle.voice_store.specs.Stood.{ShowsState};
+ghost use Rattle.voice_store.specs.Residing.{has_use, HoldsWindow, KeepsFrames, MovesFrames};
+ghost use Rattle.playing.specs.Frames.{is_resident};
+ghost use Rattle.voice_model.specs.Step.{landed};
 ghost use Rattle.listening.specs.Looks.{OnlyLooked, Looked};
 ghost use Rattle.voice_store.specs.Facts.{entry_of, Adds, AddsLanding, Goes, GoesOn, IsFault, TakesAreIn, HasRopes, hears, only_tells, most_reads};
 ghost use Rattle.voice_store.specs.DeviceCalls.{landing_calls, most_calls};
 ghost use Rattle.voice_store.specs.Spare.{FitsBehindOthers};
-ghost use Rattle.voice_store.specs.Turns.{AddsShortly, window_blocks};
+ghost use Rattle.voice_store.specs.Turns.{AddsShortly, unread_blocks, window_blocks};
 ghost use Rattle.row_calls.specs.Asked.{takes_no_memory};
 ghost use Rattle.built_calls.specs.Built.{is_built};
 
@@ -39,7 +42,7 @@ use tallies::{Tally, tallied};
 use voice_journal::{Journal, OpenError};
 use voice_model::{Call, Entry, Reply, Tapes};
 use voice_outside::Disk;
-use voice_units::{Failed, Lane, NoMemory, Shape};
+use voice_units::{Failed, Lane, NoMemory, RopeId, Shape};
 
 /// The voice manager's store over a disk: the calls of several callers, one at a time, and the history of them. Contracts see the disk, the disk as it was opened, the tapes, the history, and whether memory was wanted; the state is that of the history, from what the disk's bytes were as it was opened.
 #[derive(Drop)]
@@ -83,6 +86,8 @@ impl<D: Disk> Store<D> {
         ensures ok { IfOk result (λ s. (s.origin ≡ disk) × (tapes_in s ≡ arc_value tapes) × (history_of s ≡ []) × Goes 5 (D.told disk) (D.told s.disk) × (s.wanted ≡ false)) }
         // The opened state is what the disk's bytes recover.
         ensures state { IfOk result (λ s. (first : State) × Keeps D.told first s × (IsTrue (D.told disk).honest → opened_from (D.told disk).bytes ≡ Some first)) }
+        // No frame holds a block.
+        ensures frames { IfOk result (λ s. (n : ℕ) × (frames_in s ≡ replicate n None)) }
         // From the first sync on, each crash leaves the bytes that were read.
         ensures since { IfOk result (λ s. IsTrue (D.told disk).honest → OnlyLooked (D.told disk) (D.told s.disk) × Since ((D.told disk).calls + 1) (D.told s.disk) (λ image. image ≡ (D.told disk).bytes)) }
         ensures goes { IfErr result (λ e. Goes 5 (D.told disk) (D.told e.1)) }
@@ -128,6 +133,8 @@ impl<D: Disk> Store<D> {
         ensures still { (first : State) → Keeps D.told first self.old → (state_of first self.old).doubt ≡ None → OnErr result ((history_of self.new ≡ history_of self.old) × (hears call ≡ false → self.new.disk ≡ self.old.disk)) }
         // A call that hears a rope changes no byte, whatever its answer.
         ensures looks { IsTrue (hears call) → IsTrue (D.told self.old.disk).honest → OnlyLooked (D.told self.old.disk) (D.told self.new.disk) }
+        // No block comes into a frame, and none leaves but one that no live rope and no held passage has after a landing, or after the call.
+        ensures frames { (first : State) → Keeps D.told first self.old → KeepsFrames (landed (state_of first self.old)) (state_of first self.new) (frames_in self.old) (frames_in self.new) }
         // An answer leaves it as it was whether memory was wanted; want of memory is told from then on.
         ensures wanted { OnOk result (self.new.wanted ≡ self.old.wanted) }
         ensures want { OnErr result (self.new.wanted ≡ true) }
@@ -146,7 +153,7 @@ impl<D: Disk> Store<D> {
         ensures spare { HasRoomFor n self.old → IsOk result }
         ensures history { history_of self.new ≡ history_of self.old }
         ensures state { (first : State) → Keeps D.told first self.old → Keeps D.told first self.new }
-        ensures rest { (self.new.disk ≡ self.old.disk) × (self.new.origin ≡ self.old.origin) × (tapes_in self.new ≡ tapes_in self.old) × (pool_of self.new ≡ pool_of self.old) × (self.new.wanted ≡ self.old.wanted) }
+        ensures rest { (self.new.disk ≡ self.old.disk) × (self.new.origin ≡ self.old.origin) × (tapes_in self.new ≡ tapes_in self.old) × (pool_of self.new ≡ pool_of self.old) × (frames_in self.new ≡ frames_in self.old) × (self.new.wanted ≡ self.old.wanted) }
     {
         self.inside.reserve(n)
     }
@@ -159,13 +166,18 @@ impl<D: Disk> Store<D> {
         ensures state { (first : State) → Keeps D.told first self.old → Keeps D.told first self.new }
         // The lease of a window has the samples of the first job's passage, from where it begins, whatever was removed, freed or recorded meanwhile.
         ensures samples { IsTrue (D.told self.old.disk).honest → (first : State) → Keeps D.told first self.old → IfOk result (HasSamples (state_of first self.old) lane) }
+        // Frames hold the blocks of the window that is handed out.
+        ensures holds { (first : State) → Keeps D.told first self.old → IfOk result (HoldsWindow (state_of first self.old) lane (frames_in self.new)) }
+        // A block leaves its frame only for one that no frame held, or as no live rope and no held passage has it any more.
+        ensures moves { (first : State) → Keeps D.told first self.old → MovesFrames (state_of first self.new) (frames_in self.old) (frames_in self.new) }
         // The lease of a window is of this store's pool and of the lane; it can be brought back.
         ensures fresh { IfOk result (IsHandedOut (pool_of self.old) lane) }
         ensures cause { IfOk result (λ fed. IsFault (told fed) → HasRisen (D.told self.old.disk).faults (D.told self.new.disk).faults) }
         // It reads at most four blocks, and changes no byte.
         ensures looks { Looked 4 (D.told self.old.disk) (D.told self.new.disk) }
-        // It reads each block of its window once at most.
+        // It reads each block of its window once at most, and none that a frame holds.
         ensures calls { (first : State) → Keeps D.told first self.old → (D.told self.new.disk).calls ≤ (D.told self.old.disk).calls + window_blocks (state_of first self.old) lane None }
+        ensures reads { (first : State) → Keeps D.told first self.old → (D.told self.new.disk).calls ≤ (D.told self.old.disk).calls + unread_blocks (state_of first self.old) lane None (frames_in self.old) }
         ensures wanted { OnOk result (self.new.wanted ≡ self.old.wanted) }
         ensures want { OnErr result (self.new.wanted ≡ true) }
         ensures origin { self.new.origin ≡ self.old.origin }
@@ -189,6 +201,10 @@ impl<D: Disk> Store<D> {
         ensures err { OnErr result (history_of self.new ≡ history_of self.old) }
         ensures state { (first : State) → Keeps D.told first self.old → Keeps D.told first self.new }
         ensures samples { IsTrue (D.told self.old.disk).honest → (first : State) → Keeps D.told first self.old → IfOk result (HasSamples (state_of first self.old) lease.old.lane) }
+        // Frames hold the blocks of the window that is handed out.
+        ensures holds { (first : State) → Keeps D.told first self.old → IfOk result (HoldsWindow (state_of first self.old) lease.old.lane (frames_in self.new)) }
+        // A block leaves its frame only for one that no frame held, or as no live rope and no held passage has it any more.
+        ensures moves { (first : State) → Keeps D.told first self.old → MovesFrames (state_of first self.new) (frames_in self.old) (frames_in self.new) }
         ensures fresh { IfOk result (IsHandedOut (pool_of self.old) lease.old.lane) }
         // A lease whose player saw the hint is that of a job that is stopped.
         ensures hinted { lease.old.taken ≡ false → lease.old.hinted ≡ true → IfOk result HasStopped }
@@ -199,6 +215,7 @@ impl<D: Disk> Store<D> {
         ensures cause { IfOk result (λ fed. IsFault (told fed) → HasRisen (D.told self.old.disk).faults (D.told self.new.disk).faults) }
         ensures looks { Looked 4 (D.told self.old.disk) (D.told self.new.disk) }
         ensures calls { (first : State) → Keeps D.told first self.old → (D.told self.new.disk).calls ≤ (D.told self.old.disk).calls + window_blocks (state_of first self.old) lease.old.lane (Some heard) }
+        ensures reads { (first : State) → Keeps D.told first self.old → (D.told self.new.disk).calls ≤ (D.told self.old.disk).calls + unread_blocks (state_of first self.old) lease.old.lane (Some heard) (frames_in self.old) }
         ensures wanted { OnOk result (self.new.wanted ≡ self.old.wanted) }
         ensures want { OnErr result (self.new.wanted ≡ true) }
         ensures origin { self.new.origin ≡ self.old.origin }
@@ -222,7 +239,7 @@ impl<D: Disk> Store<D> {
         ensures back { lease.old.lane < lanes_in self.old → lease.new ≡ (if lease.old.taken then lease.old else spent lease.old) }
         ensures history { history_of self.new ≡ history_of self.old }
         ensures state { (first : State) → Keeps D.told first self.old → Keeps D.told first self.new }
-        ensures rest { (self.new.disk ≡ self.old.disk) × (self.new.origin ≡ self.old.origin) × (tapes_in self.new ≡ tapes_in self.old) × (pool_of self.new ≡ pool_of self.old) × (self.new.wanted ≡ self.old.wanted) }
+        ensures rest { (self.new.disk ≡ self.old.disk) × (self.new.origin ≡ self.old.origin) × (tapes_in self.new ≡ tapes_in self.old) × (pool_of self.new ≡ pool_of self.old) × (frames_in self.new ≡ frames_in self.old) × (self.new.wanted ≡ self.old.wanted) }
     {
         self.inside.take_back(&self.disk, lease);
     }
@@ -241,6 +258,17 @@ impl<D: Disk> Store<D> {
         self.wanted
     }
 
+    /// Whether a frame holds the bytes of a block of a voice file: then a Feed whose window has it does not read it.
+    pub fn resident(&self, file: RopeId, index: u32) -> bool
+        ensures value { result ≡ is_resident (frames_in self.now) file index }
+        // Its bytes in the frame are those at its address on the disk.
+        ensures bytes { IsTrue (D.told self.now.disk).honest → (first : State) → Keeps D.told first self.now → result ≡ true → HasBlock (D.told self.now.disk).bytes self.now file index }
+        // A live rope or a held passage has it.
+        ensures used { (first : State) → Keeps D.told first self.now → result ≡ true → has_use (state_of first self.now) file index ≡ true }
+    {
+        self.inside.lanes.is_resident(file, index)
+    }
+
     /// How many lanes there are.
     pub fn lanes(&self) -> u16
         ensures { result ≡ lanes_in self.now }
@@ -248,7 +276,7 @@ impl<D: Disk> Store<D> {
         self.inside.journal.shape().lanes
     }
 
-    /// How many blocks nothing uses: no live rope, and no change in doubt.
+    /// How many blocks nothing uses: no live rope, no held passage, and no change in doubt.
     pub fn free(&self) -> u32
         ensures { (first : State) → Keeps D.told first self.now → result ≡ free (state_of first self.now) }
     {

@@ -2,8 +2,11 @@ use Rattle.std.proofs.Common.{◌≡◌, None, Ok, inl, refl, sym, ◌∙◌, ap
 use Rattle.voice_units.specs.declared.shapes.Shape.{Shape}
 use Rattle.lane_calls.specs.declared.outcomes.Fed.TheVariants as feds
 use Rattle.play_queue.specs.Queued.{lane_of}
+use Rattle.playing.specs.Lanes.{next_window}
+use Rattle.playing.proofs.Moved.{moves_sent}
 use Rattle.lane_calls.proofs.Addressed.{next_addresses}
 use Rattle.lane_calls.proofs.Served.{may_end, feed_served, told_bytes, told_fresh, told_fault, err_stays, nothing_read, apart, on_err}
+use Rattle.lane_calls.proofs.Residing.{told_moves, told_holds}
 use Rattle.lane_calls.proofs.feeding.feed.Goals as goal
 
 pub returns-in-Some-clause-served : goal.returns-in-Some-clause-served
@@ -48,3 +51,16 @@ returns-in_err-turned-clause-stays g c = λ fill pledged takings made b s st.
 
 pub returns-clause-fresh : goal.returns-clause-fresh
 returns-clause-fresh g c = told_fresh c.args.shape.now.block 0 c.args.lane _ c.args.parts.now c.tell.new.parts c.args.lanes.now c.feed.new.self c.tell.new.lanes c.tell.result c.tell.ensures.told c.in_ok-turned.ensures.fed
+
+pub returns-in_err-turned-clause-moves : goal.returns-in_err-turned-clause-moves
+returns-in_err-turned-clause-moves g c =
+    moves_sent _ c.args.shape.now.block c.args.lane (next_window c.args.shape.now.block 0 (lane_of c.args.lanes.now.queues c.args.lane)) c.args.lanes.now.frames c.feed.new.self.frames c.feed.ensures.frames
+
+pub returns-clause-holds : goal.returns-clause-holds
+returns-clause-holds g c =
+    let least = c.args.shape.now.conditions.some_block in
+    told_holds c.args.shape.now.block 0 c.args.lane _ c.args.parts.now c.tell.new.parts c.args.lanes.now c.feed.new.self c.tell.new.lanes c.tell.result (omega (arith, least)) (c.in_default.ensures.may refl).some c.in_ok-turned.ensures.fed c.tell.ensures.told
+
+pub returns-clause-moves : goal.returns-clause-moves
+returns-clause-moves g c =
+    told_moves c.args.shape.now.block 0 c.args.lane _ c.args.parts.now c.tell.new.parts c.args.lanes.now c.feed.new.self c.tell.new.lanes c.tell.result c.in_ok-turned.ensures.fed c.tell.ensures.told c.feed.ensures.frames c.feed.ensures.stays

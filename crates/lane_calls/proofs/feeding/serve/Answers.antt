@@ -5,6 +5,7 @@ use Rattle.playing.specs.Lanes.{next_window}
 use Rattle.lane_calls.specs.declared.outcomes.Fed.TheVariants as feds
 use Rattle.lane_calls.proofs.Addressed.{next_addresses}
 use Rattle.lane_calls.proofs.Served.{may_end, feed_served, told_bytes, told_fresh, told_fault, told_back, told_stop, err_forgot, nothing_read}
+use Rattle.lane_calls.proofs.Residing.{told_moves, told_holds, err_moves}
 use Rattle.lane_calls.proofs.feeding.serve.Goals as goal
 
 pub returns-in-Some-clause-served : goal.returns-in-Some-clause-served
@@ -57,3 +58,19 @@ returns-in_default-serve-clause-stays g c = λ fill pledged takings made b s st.
 
 pub returns-clause-fresh : goal.returns-clause-fresh
 returns-clause-fresh g c = told_fresh c.args.shape.now.block c.args.heard c.args.lane _ c.args.parts.now c.tell.new.parts c.args.lanes.now c.serve.new.self c.tell.new.lanes c.tell.result c.tell.ensures.told c.in-Ok.ensures.fed
+
+pub returns-in_default-serve-clause-moves : goal.returns-in_default-serve-clause-moves
+returns-in_default-serve-clause-moves g c = λ used.
+    let least = c.args.shape.now.conditions.some_block in
+    let runs = c.requires.runs.3 in
+    err_moves c.args.parts.now c.args.shape.now.block c.args.heard c.args.lane c.args.lanes.now c.serve.new.self.frames c.forget_unused.new.self.frames runs.kept.uses (runs.kept.block ∙ ap (λ (s : Shape). s.block) c.requires.runs.4) (omega (arith, least))
+    c.serve.ensures.frames c.serve.ensures.stays c.forget_unused.ensures.forgets used
+
+pub returns-clause-holds : goal.returns-clause-holds
+returns-clause-holds g c =
+    let least = c.args.shape.now.conditions.some_block in
+    told_holds c.args.shape.now.block c.args.heard c.args.lane _ c.args.parts.now c.tell.new.parts c.args.lanes.now c.serve.new.self c.tell.new.lanes c.tell.result (omega (arith, least)) (c.in_default.ensures.may refl).some c.in-Ok.ensures.fed c.tell.ensures.told
+
+pub returns-clause-moves : goal.returns-clause-moves
+returns-clause-moves g c = λ used.
+    told_moves c.args.shape.now.block c.args.heard c.args.lane _ c.args.parts.now c.tell.new.parts c.args.lanes.now c.serve.new.self c.tell.new.lanes c.tell.result c.in-Ok.ensures.fed c.tell.ensures.told c.serve.ensures.frames c.serve.ensures.stays

@@ -1,4 +1,4 @@
-use Rattle.std.proofs.Common.{ℕ, ◌+◌, ◌≤◌, List, ap, subst, ◌∙◌, arith}
+use Rattle.std.proofs.Common.{ℕ, ◌+◌, ◌≤◌, List, inl, refl, ap, subst, ◌∙◌, arith}
 use Rattle.std.specs.Prelude.{Result, Ok, OnErr}
 use Rattle.voice_units.specs.declared.errors.NoMemory.{NoMemory}
 use Rattle.voice_model.specs.declared.calls.Call.TheVariants as calls
@@ -13,6 +13,9 @@ use Rattle.voice_store.specs.DeviceCalls.{landing_calls, most_calls}
 use Rattle.voice_store.proofs.Behind.{fits_reserved}
 use Rattle.voice_store.proofs.Landed.{stood_reserved, on_error, none_made}
 use Rattle.voice_store.proofs.Heard.{last_reserved, looked_reads, heard_within, few_on_error}
+use Rattle.voice_model.specs.Step.{landed}
+use Rattle.voice_store.specs.Residing.{KeepsFrames}
+use Rattle.voice_store.proofs.Residing.{frames_reserved}
 use Rattle.voice_store.proofs.inside.Inside.apply.Goals as goal
 
 pub returns-in_err-reserve-clause-stood : goal.returns-in_err-reserve-clause-stood
@@ -180,3 +183,36 @@ returns-in-Change-clause-turns g c = λ first t0 stood.
     adds_same (last_of first s) (last_of first t) (tapes_of s) (tapes_of t) old.calls c.args.caller c.args.call (g.D.Disk.told c.land_and_change.new.disk).calls s.history.items t.history.items c.land_and_change.new.self.history.items c.land_and_change.result
     (last_reserved first s t c.reserve.ensures.rest c.reserve.ensures.items) (ap (λ (x : Inside). tapes_of x) c.reserve.ensures.rest) c.reserve.ensures.items
     (c.land_and_change.ensures.turns first t0 (stood_reserved first t0 old s t c.reserve.ensures.rest c.reserve.ensures.items stood))
+
+pub returns-in_err-reserve-clause-frames : goal.returns-in_err-reserve-clause-frames
+returns-in_err-reserve-clause-frames g c = λ first t0 stood.
+    frames_reserved first t0 (g.D.Disk.told c.args.disk.now) (landed (last_of first c.args.self.now)) c.args.self.now c.reserve.new.self c.reserve.new.self c.reserve.ensures.rest (returns-in_err-reserve-clause-stood g c first t0 stood) (inl refl)
+
+pub returns-in-Length-clause-frames : goal.returns-in-Length-clause-frames
+returns-in-Length-clause-frames g c = λ first t0 stood.
+    frames_reserved first t0 (g.D.Disk.told c.args.disk.now) (landed (last_of first c.args.self.now)) c.args.self.now c.reserve.new.self c.tell_length.new.self c.reserve.ensures.rest (returns-in-Length-clause-stood g c first t0 stood) (inl (ap (λ (x : Inside). x.lanes.frames.resident) c.tell_length.ensures.rest))
+
+pub returns-in-Interest-clause-frames : goal.returns-in-Interest-clause-frames
+returns-in-Interest-clause-frames g c = λ first t0 stood.
+    frames_reserved first t0 (g.D.Disk.told c.args.disk.now) (landed (last_of first c.args.self.now)) c.args.self.now c.reserve.new.self c.tell_interest.new.self c.reserve.ensures.rest (returns-in-Interest-clause-stood g c first t0 stood) (inl (ap (λ (x : Inside). x.lanes.frames.resident) c.tell_interest.ensures.rest))
+
+pub returns-in-Sound-clause-frames : goal.returns-in-Sound-clause-frames
+returns-in-Sound-clause-frames g c = λ first t0 stood.
+    frames_reserved first t0 (g.D.Disk.told c.tell_sound.new.disk) (landed (last_of first c.args.self.now)) c.args.self.now c.reserve.new.self c.tell_sound.new.self c.reserve.ensures.rest (returns-in-Sound-clause-stood g c first t0 stood) c.tell_sound.ensures.frames
+
+pub returns-in-Job-clause-frames : goal.returns-in-Job-clause-frames
+returns-in-Job-clause-frames g c = λ first t0 stood.
+    frames_reserved first t0 (g.D.Disk.told c.args.disk.now) (landed (last_of first c.args.self.now)) c.args.self.now c.reserve.new.self c.play.new.self c.reserve.ensures.rest (returns-in-Job-clause-stood g c first t0 stood) c.play.ensures.frames
+
+pub returns-in-Stop-clause-frames : goal.returns-in-Stop-clause-frames
+returns-in-Stop-clause-frames g c = λ first t0 stood.
+    frames_reserved first t0 (g.D.Disk.told c.args.disk.now) (landed (last_of first c.args.self.now)) c.args.self.now c.reserve.new.self c.stop.new.self c.reserve.ensures.rest (returns-in-Stop-clause-stood g c first t0 stood) c.stop.ensures.frames
+
+pub returns-in-Change-clause-frames : goal.returns-in-Change-clause-frames
+returns-in-Change-clause-frames g c = λ first t0 stood.
+    let s = c.args.self.now in
+    let t = c.reserve.new.self in
+    let s' = c.land_and_change.new.self in
+    subst (λ (x : State). KeepsFrames (landed x) (last_of first s') s.lanes.frames.resident s'.lanes.frames.resident) (last_reserved first s t c.reserve.ensures.rest c.reserve.ensures.items)
+    (subst (λ (y : Inside). KeepsFrames (landed (last_of first t)) (last_of first s') y.lanes.frames.resident s'.lanes.frames.resident) c.reserve.ensures.rest
+    (c.land_and_change.ensures.frames first t0 (stood_reserved first t0 (g.D.Disk.told c.args.disk.now) s t c.reserve.ensures.rest c.reserve.ensures.items stood)))

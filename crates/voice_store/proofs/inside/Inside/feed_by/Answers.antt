@@ -20,7 +20,8 @@ use Rattle.voice_store.proofs.Heard.{stood_looked}
 use Rattle.voice_store.proofs.Settled.{shape_of}
 use Rattle.voice_store.proofs.Turned.{stood_stands}
 use Rattle.voice_store.proofs.Windowed.{looked_by_reads, on_disk}
-use Rattle.voice_store.proofs.Served.{holds_after, stood_after_feed, stood_refilled, fed_samples, fed_cause}
+use Rattle.voice_store.proofs.Served.{holds_after, stood_after_feed, stood_refilled, fed_samples, fed_holds, fed_cause}
+use Rattle.voice_store.proofs.Residing.{moved_frames}
 use Rattle.voice_store.proofs.inside.Inside.feed_by.Goals as goal
 
 pub feed-requires-clause-runs : goal.feed-requires-clause-runs
@@ -101,3 +102,28 @@ returns-clause-cause g c =
     fed_cause h.2.fill standing.0 h.2.takings h.2.b (last_of h.0 s) (tapes_of s) c.args.lane None s.made c.feed.new.parts c.feed.new.lanes c.in_ok-fed.fed old.faults (g.D.Disk.told c.feed.new.disk).faults
     (c.in_ok-fed.ensures.served h.2.fill standing.0 h.2.takings s.made h.2.b (last_of h.0 s) (tapes_of s) standing.1 standing.2)
     (λ e. c.in_ok-fed.ensures.fault (ap Ok e))
+
+pub returns-clause-holds : goal.returns-clause-holds
+returns-clause-holds g c = λ first t0 stood.
+    let s = c.args.self.now in
+    let old = g.D.Disk.told c.args.disk.now in
+    let last = last_of first s in
+    let shape : c.shape-shape.result ≡ s.journal.shape = c.shape-shape.ensures in
+    let standing = stood_stands first t0 old s stood in
+    let block = c.shape-shape.result.block in
+    let least = c.shape-shape.result.conditions.some_block in
+    fed_holds stood.fill s.lanes s.made last (tapes_of s) c.args.lane block None stood.playing.shows (ap (λ (x : Shape). x.block) (shape ∙ sym stood.upright.seated.shape)) (omega (arith, least))
+    standing.0 stood.takings stood.b c.feed.new.parts c.feed.new.lanes c.feed.new.lanes.frames.resident c.in_ok-fed.fed (c.in_ok-fed.ensures.served stood.fill standing.0 stood.takings s.made stood.b last (tapes_of s) standing.1 standing.2)
+    c.in_ok-fed.ensures.holds
+
+pub returns-clause-moves : goal.returns-clause-moves
+returns-clause-moves g c = λ first t0 stood.
+    let s = c.args.self.now in
+    let s' : Inside = record s { parts = c.feed.new.parts; lanes = c.feed.new.lanes; history = c.enter.new.history } in
+    moved_frames first t0 (g.D.Disk.told c.feed.new.disk) s.lanes.frames.resident s' c.shape-shape.result.block (next_window c.shape-shape.result.block 0 (lane_of s.lanes.queues c.args.lane)) (returns-clause-stood g c first t0 stood) (c.feed.ensures.moves)
+
+pub returns-in_err-fed-clause-moves : goal.returns-in_err-fed-clause-moves
+returns-in_err-fed-clause-moves g c = λ first t0 stood.
+    let s = c.args.self.now in
+    let s' : Inside = record s { parts = c.feed.new.parts; lanes = c.feed.new.lanes } in
+    moved_frames first t0 (g.D.Disk.told c.feed.new.disk) s.lanes.frames.resident s' c.shape-shape.result.block (next_window c.shape-shape.result.block 0 (lane_of s.lanes.queues c.args.lane)) (returns-in_err-fed-clause-stood g c first t0 stood) (c.feed.ensures.moves)

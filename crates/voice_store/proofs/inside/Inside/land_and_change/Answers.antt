@@ -11,6 +11,8 @@ use Rattle.voice_store.proofs.Refused.{unlanded_stays}
 use Rattle.voice_store.proofs.Landed.{risen_later, adds_after, landing_same, if_ok, on_error}
 use Rattle.voice_store.proofs.Counted.{landed_within, unlanded_within}
 use Rattle.voice_store.proofs.Turns.{adds_unlanded, adds_landed, some_landing}
+use Rattle.voice_model.specs.Step.{landed}
+use Rattle.voice_store.proofs.Residing.{kept_frames, kept_landed, keeps_noted}
 use Rattle.voice_store.proofs.inside.Inside.land_and_change.Goals as goal
 
 pub change-requires-clause-stood : goal.change-requires-clause-stood
@@ -87,3 +89,13 @@ returns-then-not-land_first-clause-turns g c = λ first t0 stood.
     let s = c.args.self.now in
     adds_unlanded (last_of first s) (tapes_of s) (g.D.Disk.told c.args.disk.now).calls c.args.caller c.args.call c.note_fault.result (g.D.Disk.told c.land_first.new.disk).calls s.history.items c.land_first.new.self.history.items c.note_fault.new.self.history.items
     c.requires.changing (c.land_first.ensures.calls first t0 stood) (c.if-not-land_first.ensures.failed refl) c.note_fault.ensures.items
+
+pub returns-clause-frames : goal.returns-clause-frames
+returns-clause-frames g c = λ first t0 stood.
+    kept_landed first t0 (g.D.Disk.told c.land_first.new.disk) (g.D.Disk.told c.change.new.disk) (landed (last_of first c.args.self.now)) c.args.self.now c.land_first.new.self c.change.new.self
+    (c.land_first.ensures.stood first t0 stood) (returns-clause-stood g c first t0 stood) (c.if-not-land_first.ensures.landed refl first t0 stood) c.land_first.ensures.frames c.change.ensures.frames
+
+pub returns-then-not-land_first-clause-frames : goal.returns-then-not-land_first-clause-frames
+returns-then-not-land_first-clause-frames g c = λ first t0 stood.
+    kept_frames first t0 (g.D.Disk.told c.land_first.new.disk) (landed (last_of first c.args.self.now)) c.args.self.now c.note_fault.new.self (returns-then-not-land_first-clause-stood g c first t0 stood)
+    (keeps_noted c.args.self.now c.land_first.new.self c.note_fault.new.self c.land_first.ensures.frames c.note_fault.ensures.rest)

@@ -13,6 +13,7 @@ use Rattle.play_queue.specs.Queued.{lane_of}
 use Rattle.voice_store.specs.declared.inside.Inside.{Inside}
 use Rattle.voice_store.specs.Facts.{entry_of}
 use Rattle.voice_store.specs.Feeding.{told, HasSamples}
+use Rattle.voice_store.specs.Residing.{HoldsWindow}
 use Rattle.lane_calls.specs.Answers.{IsServed}
 use Rattle.lane_calls.specs.declared.outcomes.Fed.{Fed}
 use Rattle.voice_model.specs.Step.{refusal}
@@ -23,7 +24,8 @@ use Rattle.voice_store.proofs.Heard.{stood_looked}
 use Rattle.voice_store.proofs.Settled.{shape_of}
 use Rattle.voice_store.proofs.Turned.{stood_stands}
 use Rattle.voice_store.proofs.Windowed.{looked_by_reads, on_disk}
-use Rattle.voice_store.proofs.Served.{holds_after, stood_after_feed, stood_refilled, fed_samples, fed_cause, known_at, brings_it, serves_free, spent_back, no_reason}
+use Rattle.voice_store.proofs.Served.{holds_after, stood_after_feed, stood_refilled, fed_samples, fed_holds, fed_cause, known_at, brings_it, serves_free, spent_back, no_reason}
+use Rattle.voice_store.proofs.Residing.{moved_frames}
 use Rattle.voice_store.proofs.inside.Inside.serve_by.Goals as goal
 
 pub serve-requires-clause-runs : goal.serve-requires-clause-runs
@@ -143,3 +145,29 @@ returns-clause-cause g c =
     fed_cause h.2.fill standing.0 h.2.takings h.2.b (last_of h.0 s) (tapes_of s) c.lane-lane.result (Some c.args.heard) s.made c.serve.new.parts c.serve.new.lanes c.in_ok-fed.fed old.faults (g.D.Disk.told c.serve.new.disk).faults
     (c.in_ok-fed.ensures.served h.2.fill standing.0 h.2.takings s.made h.2.b (last_of h.0 s) (tapes_of s) standing.1 standing.2)
     (λ e. c.in_ok-fed.ensures.fault (ap Ok e))
+
+pub returns-clause-holds : goal.returns-clause-holds
+returns-clause-holds g c = λ first t0 stood.
+    let s = c.args.self.now in
+    let old = g.D.Disk.told c.args.disk.now in
+    let last = last_of first s in
+    let shape : c.shape-shape.result ≡ s.journal.shape = c.shape-shape.ensures in
+    let standing = stood_stands first t0 old s stood in
+    let block = c.shape-shape.result.block in
+    let least = c.shape-shape.result.conditions.some_block in
+    subst (λ (l : ℕ). HoldsWindow last l c.serve.new.lanes.frames.resident c.in_ok-fed.fed) c.lane-lane.ensures
+    (fed_holds stood.fill s.lanes s.made last (tapes_of s) c.lane-lane.result block (Some c.args.heard) stood.playing.shows (ap (λ (x : Shape). x.block) (shape ∙ sym stood.upright.seated.shape)) (omega (arith, least))
+    standing.0 stood.takings stood.b c.serve.new.parts c.serve.new.lanes c.serve.new.lanes.frames.resident c.in_ok-fed.fed (c.in_ok-fed.ensures.served stood.fill standing.0 stood.takings s.made stood.b last (tapes_of s) standing.1 standing.2)
+    c.in_ok-fed.ensures.holds)
+
+pub returns-clause-moves : goal.returns-clause-moves
+returns-clause-moves g c = λ first t0 stood.
+    let s = c.args.self.now in
+    let s' : Inside = record s { parts = c.serve.new.parts; lanes = c.serve.new.lanes; history = c.enter.new.history } in
+    moved_frames first t0 (g.D.Disk.told c.serve.new.disk) s.lanes.frames.resident s' c.shape-shape.result.block (next_window c.shape-shape.result.block c.args.heard (lane_of s.lanes.queues c.lane-lane.result)) (returns-clause-stood g c first t0 stood) (c.serve.ensures.moves stood.playing.used)
+
+pub returns-in_err-fed-clause-moves : goal.returns-in_err-fed-clause-moves
+returns-in_err-fed-clause-moves g c = λ first t0 stood.
+    let s = c.args.self.now in
+    let s' : Inside = record s { parts = c.serve.new.parts; lanes = c.serve.new.lanes } in
+    moved_frames first t0 (g.D.Disk.told c.serve.new.disk) s.lanes.frames.resident s' c.shape-shape.result.block (next_window c.shape-shape.result.block c.args.heard (lane_of s.lanes.queues c.lane-lane.result)) (returns-in_err-fed-clause-stood g c first t0 stood) (c.serve.ensures.moves stood.playing.used)

@@ -1,8 +1,9 @@
-use Rattle.std.proofs.Common.{◌≡◌, ◌++◌, ◌∷◌, [], ℕ, IsTrue, refl, sym, ◌∙◌, ap, subst}
+use Rattle.std.proofs.Common.{◌≡◌, ◌++◌, ◌∷◌, [], ℕ, IsTrue, inl, inr, refl, sym, ◌∙◌, ap, subst}
 use Rattle.voice_model.specs.declared.calls.Call.TheVariants as calls
 use Rattle.voice_model.specs.declared.calls.Reply.TheVariants as replies
 use Rattle.crash_laws.specs.Standing.{IsHonest}
 use Rattle.crash_laws.proofs.Noted.{entries_count}
+use Rattle.playing.specs.Lanes.{LanesState}
 use Rattle.lane_calls.specs.Answers.{IsAnswered}
 use Rattle.voice_store.specs.declared.inside.Inside.{Inside}
 use Rattle.voice_store.specs.Stood.{last_of, tapes_of}
@@ -54,3 +55,9 @@ returns-clause-stood g c = λ first t0 stood.
     stood_stopped first t0 disk s s' stood c.args.caller c.args.lane reply answered refl items
     c.stop.ensures.bytes c.stop.ensures.addresses c.stop.ensures.uses c.stop.ensures.interests c.stop.ensures.spare_ropes c.stop.ensures.spare_pairs
     honest (entries_count disk)
+
+pub returns-in-Err-clause-frames : goal.returns-in-Err-clause-frames
+returns-in-Err-clause-frames g c = inl (ap (λ (x : Inside). x.lanes.frames.resident) c.refuse.ensures.rest ∙ ap (λ (l : LanesState). l.frames.resident) c.in-Err.ensures.err.1)
+
+pub returns-clause-frames : goal.returns-clause-frames
+returns-clause-frames g c = inr c.in-Ok.ensures.forgets

@@ -1,7 +1,10 @@
 use Rattle.std.proofs.Common.{◌≡◌, ◌+◌, ◌≤◌, None, false, sym, ◌∙◌, subst}
 use Rattle.std.specs.Prelude.{IsTrue, IfOk, OnErr}
 use Rattle.listening.specs.Looks.{OnlyLooked}
-use Rattle.voice_store.specs.Shown.{Stands, HasRoomFor, history_of, tapes_in, state_of}
+use Rattle.voice_model.specs.Step.{landed}
+use Rattle.voice_store.specs.Residing.{KeepsFrames}
+use Rattle.voice_store.specs.Stood.{last_of}
+use Rattle.voice_store.specs.Shown.{Stands, HasRoomFor, history_of, tapes_in, frames_in, state_of}
 use Rattle.voice_store.specs.Spare.{FitsBehindOthers}
 use Rattle.voice_store.specs.Facts.{GoesOn, hears, most_reads}
 use Rattle.voice_store.specs.DeviceCalls.{landing_calls, most_calls}
@@ -82,3 +85,11 @@ returns-clause-behind g c = λ first stands takes room sure fits.
     c.apply-answer.ensures.behind (nothing_waits first (origin.calls + 1) disk c.self.inside.inside was.stood none) first (origin.calls + 1) was.stood takes
     (subst (λ v. FitsBehindOthers (state_of first v) (tapes_in v) c.args.call) (sym c.self.view_is) fits)
     (subst (λ v. HasRoomFor 2 v) (sym c.self.view_is) room)
+
+pub returns-clause-frames : goal.returns-clause-frames
+returns-clause-frames g c = λ first stands.
+    let was = subst (λ v. Stands first (g.D.Disk.told v.origin) (g.D.Disk.told v.disk) v.inside v.wanted) (sym c.self.view_is) stands in
+    let origin = g.D.Disk.told c.self.inside.origin.value in
+    let s' = c.apply-answer.new.self in
+    subst (λ v. KeepsFrames (landed (state_of first v)) (last_of first s') (frames_in v) s'.lanes.frames.resident) c.self.view_is
+    (c.apply-answer.ensures.frames first (origin.calls + 1) was.stood)

@@ -1,12 +1,16 @@
-use Rattle.std.proofs.Common.{◌+◌, ◌≤◌, Some, IsTrue, sym, subst}
+use Rattle.std.proofs.Common.{◌+◌, ◌≤◌, Some, IsTrue, inl, sym, ◌∙◌, ap, subst}
 use Rattle.std.specs.Prelude.{IfOk}
 use Rattle.voice_store.specs.Feeding.{HasSamples}
+use Rattle.voice_store.specs.Residing.{HoldsWindow, MovesFrames}
+use Rattle.voice_store.specs.Stood.{last_of}
+use Rattle.voice_store.specs.declared.inside.Inside.{Inside}
+use Rattle.playing.specs.Frames.{resident_at}
 use Rattle.voice_model.specs.State.{State}
-use Rattle.voice_store.specs.Shown.{Stands, state_of}
-use Rattle.voice_store.specs.Turns.{window_blocks}
+use Rattle.voice_store.specs.Shown.{Stands, frames_in, state_of}
+use Rattle.voice_store.specs.Turns.{unread_blocks, window_blocks}
 use Rattle.voice_store.proofs.Heard.{last_reserved}
 use Rattle.voice_store.proofs.Landed.{stands_reserved}
-use Rattle.voice_store.proofs.Served.{same_samples}
+use Rattle.voice_store.proofs.Served.{same_samples, same_holds}
 use Rattle.voice_store.proofs.Turns.{stands_wanted, stands_fed}
 use Rattle.voice_store.proofs.store.Store.serve.Goals as goal
 
@@ -74,3 +78,38 @@ returns-clause-calls g c = λ first stands.
     subst (λ v. new.calls ≤ (g.D.Disk.told v.disk).calls + window_blocks (state_of first v) c.args.lease.now.lane (Some c.args.heard)) c.self.view_is
     (subst (λ (x : State). new.calls ≤ old.calls + window_blocks x c.args.lease.now.lane (Some c.args.heard)) (last_reserved first c.self.inside.inside c.reserve.new.self c.reserve.ensures.rest c.reserve.ensures.items)
     (c.serve-answer.ensures.calls first (origin.calls + 1) then.stood))
+
+pub returns-clause-holds : goal.returns-clause-holds
+returns-clause-holds g c = λ first stands.
+    let was = subst (λ v. Stands first (g.D.Disk.told v.origin) (g.D.Disk.told v.disk) v.inside v.wanted) (sym c.self.view_is) stands in
+    let origin = g.D.Disk.told c.self.inside.origin.value in
+    let old = g.D.Disk.told c.self.inside.disk in
+    let then = stands_reserved first origin old c.self.inside.inside c.reserve.new.self c.self.inside.wanted c.reserve.ensures.rest c.reserve.ensures.items was in
+    let frames = c.serve-answer.new.self.lanes.frames.resident in
+    subst (λ v. IfOk c.serve-answer.result (HoldsWindow (state_of first v) c.args.lease.now.lane frames)) c.self.view_is
+    (same_holds _ _ c.args.lease.now.lane frames c.serve-answer.result (last_reserved first c.self.inside.inside c.reserve.new.self c.reserve.ensures.rest c.reserve.ensures.items) (c.serve-answer.ensures.holds first (origin.calls + 1) then.stood))
+
+pub returns-clause-moves : goal.returns-clause-moves
+returns-clause-moves g c = λ first stands.
+    let was = subst (λ v. Stands first (g.D.Disk.told v.origin) (g.D.Disk.told v.disk) v.inside v.wanted) (sym c.self.view_is) stands in
+    let origin = g.D.Disk.told c.self.inside.origin.value in
+    let old = g.D.Disk.told c.self.inside.disk in
+    let then = stands_reserved first origin old c.self.inside.inside c.reserve.new.self c.self.inside.wanted c.reserve.ensures.rest c.reserve.ensures.items was in
+    let s' = c.serve-answer.new.self in
+    subst (λ v. MovesFrames (last_of first s') (frames_in v) s'.lanes.frames.resident) c.self.view_is
+    (subst (λ (x : Inside). MovesFrames (last_of first s') x.lanes.frames.resident s'.lanes.frames.resident) c.reserve.ensures.rest (c.serve-answer.ensures.moves first (origin.calls + 1) then.stood))
+
+pub returns-then-is_err-clause-moves : goal.returns-then-is_err-clause-moves
+returns-then-is_err-clause-moves g c = λ first stands f d at. inl (ap (λ (x : Inside). resident_at x.lanes.frames.resident f) c.reserve.ensures.rest ∙ ap (λ v. resident_at (frames_in v) f) c.self.view_is ∙ at)
+
+pub returns-clause-reads : goal.returns-clause-reads
+returns-clause-reads g c = λ first stands.
+    let was = subst (λ v. Stands first (g.D.Disk.told v.origin) (g.D.Disk.told v.disk) v.inside v.wanted) (sym c.self.view_is) stands in
+    let origin = g.D.Disk.told c.self.inside.origin.value in
+    let old = g.D.Disk.told c.self.inside.disk in
+    let new = g.D.Disk.told c.serve-answer.new.disk in
+    let then = stands_reserved first origin old c.self.inside.inside c.reserve.new.self c.self.inside.wanted c.reserve.ensures.rest c.reserve.ensures.items was in
+    subst (λ v. new.calls ≤ (g.D.Disk.told v.disk).calls + unread_blocks (state_of first v) c.args.lease.now.lane (Some c.args.heard) (frames_in v)) c.self.view_is
+    (subst (λ (y : Inside). new.calls ≤ old.calls + unread_blocks (last_of first c.self.inside.inside) c.args.lease.now.lane (Some c.args.heard) y.lanes.frames.resident) c.reserve.ensures.rest
+    (subst (λ (x : State). new.calls ≤ old.calls + unread_blocks x c.args.lease.now.lane (Some c.args.heard) c.reserve.new.self.lanes.frames.resident) (last_reserved first c.self.inside.inside c.reserve.new.self c.reserve.ensures.rest c.reserve.ensures.items)
+    (c.serve-answer.ensures.reads first (origin.calls + 1) then.stood)))
