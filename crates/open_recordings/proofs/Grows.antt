@@ -10,8 +10,9 @@ use Rattle.recovery.specs.declared.parts.Parts.{Parts}
 use Rattle.recovery.specs.Shown.{Shows}
 use Rattle.running_tables.specs.Running.{Runs, taken}
 use Rattle.running_tables.specs.Laws.{HasGrown}
-use Rattle.running_tables.proofs.Grown.{grown, old_or_new}
+use Rattle.running_tables.proofs.Grown.{grown, old_or_new, old_stays}
 use Rattle.next_ropes.specs.Lowest.{lowest_open}
+use Rattle.next_ropes.specs.Addresses.{KeepsAddresses}
 use Rattle.open_recordings.specs.Blocks.{AreAddresses, HasBlocks, HandsOut}
 use Rattle.open_recordings.proofs.Counted.{index_taken, has_blocks}
 use Rattle.open_recordings.proofs.Listed.{lowest_listed}
@@ -54,3 +55,6 @@ module _ (held pledged : List (List Piece)) (takings : List ℕ) (old : Parts) (
     | inl k ↦ inl k
     | inr r ↦ inr (ap (λ (x : Holder). x.owner) r.is)
   ]
+
+  pub more_stays : KeepsAddresses new old.blocks.holders
+  more_stays a g e = ap (λ (l : Holders). holder_at l a) h.holders ∙ old_stays (Taking lane) (taken takings lane) n old.blocks.holders a g e

@@ -25,6 +25,7 @@ pub fn grow(alloc: Global, parts: &mut Parts, lane: Lane, n: u32) -> Result<Vec<
     ensures lowest { IfOk result (λ addresses. addresses.items ≡ lowest_open n parts.old.blocks.holders) }
     ensures own { (held pledged : List (List Piece)) (takings : List ℕ) (b : Rebuilt) → Runs held pledged takings parts.old b → IfOk result (λ addresses. AreAddresses parts.new.blocks.holders (owners.Taking lane) (taken takings lane) n addresses.items) }
     ensures hands { OnOk result (HandsOut lane parts.old.blocks.holders parts.new.blocks.holders) }
+    ensures stays { OnOk result (KeepsAddresses parts.new.blocks.holders parts.old.blocks.holders) }
     ensures err { (held pledged : List (List Piece)) (takings : List ℕ) (b : Rebuilt) → Runs held pledged takings parts.old b → OnErr result (Runs held pledged takings parts.new b) }
     ensures none { OnErr result (KeepsAddresses parts.old.blocks.holders parts.new.blocks.holders) }
 {

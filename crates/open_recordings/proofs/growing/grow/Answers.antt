@@ -5,7 +5,7 @@ use Rattle.running_tables.specs.Running.{taken}
 use Rattle.next_ropes.specs.Lowest.{lowest_open}
 use Rattle.open_recordings.specs.Blocks.{AreAddresses}
 use Rattle.open_recordings.proofs.Counted.{index_taken, taken_few}
-use Rattle.open_recordings.proofs.Grows.{found_count, taken_more, more_listed, more_runs, more_hands}
+use Rattle.open_recordings.proofs.Grows.{found_count, taken_more, more_listed, more_runs, more_hands, more_stays}
 use Rattle.open_recordings.proofs.growing.grow.Goals as goal
 
 pub take-taken-requires-clause-fits : goal.take-taken-requires-clause-fits
@@ -59,3 +59,12 @@ returns-clause-hands c =
     let new = c.take-taken.new.self in
     let is = taken_more by.0 by.1 by.2 old by.3 c.args.lane c.args.n c.take-taken.result room new.holders by.4 c.requires.free c.reserve.ensures.holders c.take-taken.ensures.exact c.take-taken.ensures.holders in
     more_hands by.0 by.1 by.2 old by.3 c.args.lane c.args.n new.holders is
+
+pub returns-clause-stays : goal.returns-clause-stays
+returns-clause-stays c =
+    let old = c.args.parts.now in
+    let by = c.requires.parts in
+    let room = c.reserve.new.self.holders in
+    let new = c.take-taken.new.self in
+    let is = taken_more by.0 by.1 by.2 old by.3 c.args.lane c.args.n c.take-taken.result room new.holders by.4 c.requires.free c.reserve.ensures.holders c.take-taken.ensures.exact c.take-taken.ensures.holders in
+    more_stays by.0 by.1 by.2 old by.3 c.args.lane c.args.n new.holders is
