@@ -30,7 +30,7 @@ pub(crate) fn blocks_taken(blocks: &BlockMap, lane: Lane) -> u32
 }
 
 /// The addresses of so many blocks of a lane's open recording, from an index on, in rising index. It takes no memory: the empty list has room for them.
-pub(crate) fn addresses_of(
+pub fn addresses_of(
     blocks: &BlockMap,
     lane: Lane,
     from: u32,

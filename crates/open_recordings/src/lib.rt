@@ -7,5 +7,6 @@ mod growing;
 mod payloads;
 mod room;
 
+pub use addresses::addresses_of;
 pub use ending::{parts_after, pledge, ready_ended};
 pub use growing::{grow, shrink};

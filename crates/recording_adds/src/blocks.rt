@@ -1,14 +1,11 @@
-//! How many blocks samples take, and the addresses of an open recording's blocks.
+//! How many blocks samples take, and memory for their addresses.
 
-ghost use Rattle.std.specs.Prelude.{◌≡◌, ℕ, ◌+◌, ◌<◌, ◌≤◌, ◌^◌, List, [], IfOk, vec_len};
+ghost use Rattle.std.specs.Prelude.{◌≡◌, ◌≤◌, ◌^◌, [], IfOk, vec_len};
 ghost use Rattle.std.specs.Vec.{vec_capacity};
 ghost use Rattle.voice_units.specs.Blocks.{blocks_for};
-ghost use Rattle.voice_blocks.specs.declared.owner.Owner.TheVariants as owners;
-ghost use Rattle.open_recordings.specs.Blocks.{AreAddresses};
 
 use std::alloc::Global;
-use voice_blocks::{BlockMap, Owner};
-use voice_units::{Lane, NoMemory};
+use voice_units::NoMemory;
 
 /// Memory for the addresses of blocks, and for one block.
 #[derive(Drop)]
@@ -36,28 +33,4 @@ pub(crate) fn blocks_needed(block: u32, len: u32) -> u32
     ensures { result ≡ blocks_for block len }
 {
     (len + (block - 1)) / block
-}
-
-/// The addresses of so many blocks of a lane's open recording, from an index on, in rising index. It takes no memory: the empty list has room for them.
-pub(crate) fn addresses_of(
-    blocks: &BlockMap,
-    lane: Lane,
-    from: u32,
-    count: u32,
-    mut list: Vec<u32>,
-) -> Vec<u32>
-    requires empty { list.items ≡ [] }
-    requires room { count ≤ vec_capacity list }
-    requires fits { from + count < 2 ^ 32 }
-    ensures { (addresses : List ℕ) → AreAddresses blocks.now.holders (owners.Taking lane) from count addresses → result.items ≡ addresses }
-{
-    for k in 0..count {
-        let Some(address) = blocks.address(Owner::Taking(lane), from + k) else {
-            return list;
-        };
-        let Ok(()) = list.push(address) else {
-            return list;
-        };
-    }
-    list
 }

@@ -7,7 +7,8 @@ ghost use Rattle.voice_blocks.specs.declared.owner.Owner.TheVariants as owners;
 ghost use Rattle.recording_writer.specs.Wrote.{WroteAt, byte_place};
 ghost use Rattle.open_recordings.specs.Blocks.{AreAddresses};
 
-use crate::blocks::{Rooms, addresses_of};
+use crate::blocks::Rooms;
+use open_recordings::addresses_of;
 use recording_writer::write_samples;
 use voice_blocks::BlockMap;
 use voice_outside::Disk;
