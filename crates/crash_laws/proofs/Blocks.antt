@@ -34,7 +34,7 @@ other_area shape true least = omega arith
 other_area shape false least = omega arith
 
 -- the gate that commits lies in the areas
-place_within : (shape : Shape) (seat : Seat) (doubt : Doubt) (image : List ℕ) (r s : Journal) → IsAt shape seat r → IsAt shape (landed seat doubt) s → Reads image r ⊎ Reads image s
+pub place_within : (shape : Shape) (seat : Seat) (doubt : Doubt) (image : List ℕ) (r s : Journal) → IsAt shape seat r → IsAt shape (landed seat doubt) s → Reads image r ⊎ Reads image s
     → (commit_place shape seat doubt < 64 + 2 * shape.area) × (64 + 2 * shape.area ≤ length image)
 place_within shape seat (Record len) image r s at next (inl reads) =
     let p = placed image r reads in

@@ -86,11 +86,11 @@ pub record WritesCarry (old new : Told) : Type 0 where
       → n ≤ count * journal.shape.block → WritesWithin (block_place journal.shape address) n old new
       → AreFree address count b → (is_some (step.after first tapes history).doubt ≡ true → AreFree address count after)
       → IsHeld first tapes t0 journal new b after history
-  -- writes into any blocks that have no place, where nothing is in doubt
+  -- writes into any blocks that have no place, nor one once what is in doubt has landed
   pub spared :
       (first : State) (tapes : List (List ℕ)) (t0 : ℕ) (journal : JournalValue) (b after : Rebuilt) (history : List Entry)
-      → IsLater old new → IsHeld first tapes t0 journal old b after history → (step.after first tapes history).doubt ≡ None
-      → SparesWithin journal.shape b old new
+      → IsLater old new → IsHeld first tapes t0 journal old b after history
+      → SparesWithin journal.shape b old new → (is_some (step.after first tapes history).doubt ≡ true → SparesWithin journal.shape after old new)
       → IsHeld first tapes t0 journal new b after history
 
 -- an append, with the entry of the call that asked for it

@@ -5,6 +5,7 @@ ghost use Rattle.voice_units.specs.declared.Piece.{Piece as PieceValue};
 ghost use Rattle.voice_units.specs.Spots.{spots_from, pieces_of, samples_in};
 ghost use Rattle.voice_units.specs.Blocks.{blocks_for};
 ghost use Rattle.voice_blocks.specs.declared.owner.Owner.TheVariants as owners;
+ghost use Rattle.voice_blocks.specs.Holders.{EachBecomes, renamed};
 ghost use Rattle.voice_model.specs.declared.Change.{Change};
 ghost use Rattle.voice_model.specs.Spelling.{spelling, keeps_grammar};
 ghost use Rattle.voice_model.specs.Replay.{Rebuilt, all_differ, acted};
@@ -100,7 +101,9 @@ pub fn ready_ended(
 /// The blocks of a lane's open recording become those of the new file. It takes no memory.
 pub fn pledge(parts: &mut Parts, lane: Lane, next: &NextRope)
     requires { (held : List (List PieceValue)) × (takings : List ℕ) × (b : Rebuilt) × (c : Change) × IsEnding held takings lane parts.old b next.now c }
-    ensures { (held : List (List PieceValue)) (takings more : List ℕ) (b : Rebuilt) (c : Change) → IsEnding held takings lane parts.old b next.now c → HasEnded lane takings more → IsReady held more parts.new b next.now c }
+    ensures ready { (held : List (List PieceValue)) (takings more : List ℕ) (b : Rebuilt) (c : Change) → IsEnding held takings lane parts.old b next.now c → HasEnded lane takings more → IsReady held more parts.new b next.now c }
+    ensures holders { EachBecomes (renamed lane next.now.id) parts.old.blocks.holders parts.new.blocks.holders }
+    ensures rest { parts.new ≡ record parts.old { blocks = parts.new.blocks } }
 {
     parts.blocks.rename(lane, next.id);
 }

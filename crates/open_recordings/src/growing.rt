@@ -28,6 +28,7 @@ pub fn grow(alloc: Global, parts: &mut Parts, lane: Lane, n: u32) -> Result<Vec<
     ensures stays { OnOk result (KeepsAddresses parts.new.blocks.holders parts.old.blocks.holders) }
     ensures err { (held pledged : List (List Piece)) (takings : List ℕ) (b : Rebuilt) → Runs held pledged takings parts.old b → OnErr result (Runs held pledged takings parts.new b) }
     ensures none { OnErr result (KeepsAddresses parts.old.blocks.holders parts.new.blocks.holders) }
+    ensures rest { parts.new ≡ record parts.old { blocks = parts.new.blocks } }
 {
     let list = Vec::with_capacity(alloc, n as usize)?;
     parts.blocks.reserve(n)?;
@@ -42,6 +43,7 @@ pub fn shrink(parts: &mut Parts, lane: Lane, from: u32, n: u32)
     requires { (held : List (List Piece)) × (pledged : List (List Piece)) × (more : List ℕ) × (b : Rebuilt) × Runs held pledged more parts.old b × (taken more lane ≡ from + n) }
     ensures runs { (held pledged : List (List Piece)) (takings more : List ℕ) (b : Rebuilt) → Runs held pledged more parts.old b → taken takings lane ≡ from → HasGrown lane n takings more → Runs held pledged takings parts.new b }
     ensures kept { KeepsAddresses parts.old.blocks.holders parts.new.blocks.holders }
+    ensures rest { parts.new ≡ record parts.old { blocks = parts.new.blocks } }
 {
     drop_blocks(&mut parts.blocks, lane, from, n);
 }

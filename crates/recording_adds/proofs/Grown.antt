@@ -1,5 +1,5 @@
 -- The tables after a lane's open recording took more blocks.
-use Rattle.std.proofs.Common.{◌≡◌, ℕ, zero, suc, ◌+◌, ◌/◌, ◌<◌, List, [], ◌∷◌, length, refl, ◌∙◌, ap, arith}
+use Rattle.std.proofs.Common.{◌≡◌, ℕ, zero, suc, ◌+◌, ◌/◌, ◌<◌, List, [], ◌∷◌, length, refl, sym, ◌∙◌, ap, subst, arith}
 use Rattle.voice_units.specs.declared.pieces.Piece.{Piece}
 use Rattle.voice_units.specs.declared.shapes.Shape.{Shape}
 use Rattle.voice_units.specs.Blocks.{blocks_for}
@@ -8,14 +8,14 @@ use Rattle.voice_outside.specs.Disk.{Told}
 use Rattle.voice_blocks.specs.Holders.{block_of}
 use Rattle.voice_blocks.specs.declared.owner.Owner.TheVariants.{Taking}
 use Rattle.recovery.specs.declared.parts.Parts.{Parts}
-use Rattle.recording_writer.specs.Wrote.{WroteAt}
+use Rattle.recording_writer.specs.Wrote.{WroteAt, AreBelow}
 use Rattle.running_tables.specs.Running.{Runs, IsGiven, taken}
 use Rattle.running_tables.specs.Laws.{HasGrown}
 use Rattle.next_ropes.specs.Addresses.{KeepsAddresses}
 use Rattle.open_recordings.specs.Blocks.{AreAddresses, HandsOut}
 use Rattle.open_recordings.proofs.Listed.{given_listed}
 use Rattle.recording_adds.specs.Adds.{HoldsBlocks, WroteOwn, blocks_more, whole_more}
-use Rattle.recording_adds.proofs.Listed.{were_open}
+use Rattle.recording_adds.proofs.Listed.{are_below, were_open}
 use Rattle.recording_adds.proofs.Numbers.{blocks_rise, whole_rises, whole_needed, some_block}
 
 -- a lane's number, grown by n
@@ -108,5 +108,6 @@ module _ (shape : Shape) (lane total n : ℕ) (old new : Parts) (h : HasMore sha
   wrote_own from to wrote = record {
     addresses = whole_listed.0;
     own = were_open lane (total / shape.block) (whole_more shape.block total n) old.blocks.holders new.blocks.holders whole_listed.0 whole_listed.1 h.stays;
+    below = subst (λ m. AreBelow m whole_listed.0) (h.after.size ∙ sym h.before.size) (are_below new.blocks.holders (Taking lane) (total / shape.block) (whole_more shape.block total n) whole_listed.0 whole_listed.1);
     wrote = wrote whole_listed.0 whole_listed.1;
   }

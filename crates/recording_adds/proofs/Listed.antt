@@ -1,11 +1,13 @@
 -- The addresses of blocks of a lane's open recording.
 use Rattle.std.proofs.Common.{◌≡◌, inl, inr, ℕ, zero, suc, ◌+◌, ◌<◌, List, [], ◌∷◌, length, Option, Some, None, refl, sym, ◌∙◌, ap, arith}
 use Rattle.std.specs.Prelude.{slice_index}
+use Rattle.voice_units.specs.declared.shapes.Shape.{Shape}
+use Rattle.voice_outside.specs.Disk.{Told}
 use Rattle.voice_blocks.specs.Holders.{Holders, holder_at, block_of}
 use Rattle.voice_blocks.specs.declared.owner.Owner.{Owner}
 use Rattle.voice_blocks.specs.declared.owner.Owner.TheVariants.{Taking}
 use Rattle.voice_blocks.specs.declared.owner.Holder.{Holder}
-use Rattle.recording_writer.specs.Wrote.{AreBelow, AreDistinct}
+use Rattle.recording_writer.specs.Wrote.{AreBelow, AreDistinct, WroteAt}
 use Rattle.next_ropes.specs.Addresses.{KeepsAddresses}
 use Rattle.open_recordings.specs.Blocks.{AreAt, AreAddresses}
 use Rattle.open_recordings.proofs.Counted.{index_in}
@@ -39,3 +41,11 @@ were_open lane from count old new addresses h stays k less = by (holder_at old (
     by (Some g) e =
         let two : Some g ≡ Some (block_of (Taking lane) (from + k)) = sym (stays (slice_index addresses k) g e) ∙ held_at new (Taking lane) from count addresses h k less in
         inr (from + k, omega arith, e ∙ two)
+
+-- where nothing is written nothing changes
+pub wrote_none : (shape : Shape) (addresses : List ℕ) (disk : Told) → WroteAt shape addresses disk disk
+wrote_none shape addresses disk = record {
+  bytes = record { same_length = refl; outside = λ i apart. refl };
+  now = λ image left. (image, left, record { same_length = refl; outside = λ i apart. refl });
+  crash = λ t image le left. inl left;
+}

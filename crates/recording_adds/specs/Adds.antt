@@ -2,7 +2,7 @@
 --     blocks_more block total n, whole_more block total n      how many blocks more a recording takes with n bytes more;  how many blocks become whole
 --     HoldsBlocks shape lane total parts      parts of a running manager of this shape, whose lane has an open recording with the blocks of so many bytes
 --     IsOpenTo holders lane from a      an address is free, or that of a block of the lane's open recording, from an index on
---     WroteOwn shape holders lane from old new      what was written, or may be left by a crash, lies in blocks at such addresses
+--     WroteOwn shape holders lane from old new      what was written, or may be left by a crash, lies in blocks at such addresses of the disk
 --     HasWhole shape image holders lane bytes      the addresses of the whole blocks of the lane's open recording have their bytes
 --     MakesCalls most old new      what it does to the counts of a disk
 --     OnAdded, OnFault, OnNone      what holds where bytes were added;  where a device call failed;  where they were not added
@@ -16,7 +16,7 @@ use Rattle.voice_blocks.specs.Holders.{Holders, holder_at, block_of}
 use Rattle.voice_blocks.specs.Place.{block_place}
 use Rattle.voice_blocks.specs.declared.owner.Owner.TheVariants.{Taking}
 use Rattle.recovery.specs.declared.parts.Parts.{Parts}
-use Rattle.recording_writer.specs.Wrote.{WroteAt}
+use Rattle.recording_writer.specs.Wrote.{WroteAt, AreBelow}
 use Rattle.running_tables.specs.Running.{Runs, taken}
 
 -- how many blocks more a recording of so many bytes takes with n bytes more
@@ -45,6 +45,7 @@ IsOpenTo holders lane from a = (holder_at holders a ≡ None) ⊎ ((index : ℕ)
 pub record WroteOwn (shape : Shape) (holders : Holders) (lane from : ℕ) (old new : Told) : Type 0 where
   pub addresses : List ℕ
   pub own : (k : ℕ) → k < length addresses → IsOpenTo holders lane from (slice_index addresses k)
+  pub below : AreBelow (length holders) addresses
   pub wrote : WroteAt shape addresses old new
 
 -- the addresses of the whole blocks of the lane's open recording, of these bytes, have the bytes from the block's first one on

@@ -52,8 +52,10 @@ fn take_and_write<D: Disk>(
     ensures hands { OnAdded result (HandsOut lane parts.old.blocks.holders parts.new.blocks.holders) }
     ensures stays { KeepsAddresses parts.new.blocks.holders parts.old.blocks.holders }
     ensures none { OnNone result (KeepsAddresses parts.old.blocks.holders parts.new.blocks.holders) }
+    ensures rest { parts.new ≡ record parts.old { blocks = parts.new.blocks } }
     ensures made { MakesCalls (whole_more shape.now.block total n) (D.told disk.old) (D.told disk.new) }
     ensures cause { OnFault result (HasRisen (D.told disk.old).faults (D.told disk.new).faults) }
+    ensures reached { OnFault result (0 < whole_more shape.now.block total n) }
     ensures still { OnErr result (disk.new ≡ disk.old) }
 {
     let from = blocks_needed(shape.block, total);
@@ -104,8 +106,10 @@ pub fn add<D: Disk>(
     ensures hands { OnAdded result (HandsOut lane parts.old.blocks.holders parts.new.blocks.holders) }
     ensures stays { KeepsAddresses parts.new.blocks.holders parts.old.blocks.holders }
     ensures none { OnNone result (KeepsAddresses parts.old.blocks.holders parts.new.blocks.holders) }
+    ensures rest { parts.new ≡ record parts.old { blocks = parts.new.blocks } }
     ensures made { MakesCalls (whole_more shape.now.block (total_in (recording_at recordings.old lane)) (length bytes.now)) (D.told disk.old) (D.told disk.new) }
     ensures cause { OnFault result (HasRisen (D.told disk.old).faults (D.told disk.new).faults) }
+    ensures reached { OnFault result (0 < whole_more shape.now.block (total_in (recording_at recordings.old lane)) (length bytes.now)) }
     ensures still { OnErr result (disk.new ≡ disk.old) }
 {
     let Added { taking, blocks } = recordings.added(lane, bytes)?;

@@ -1,6 +1,6 @@
 //! The blocks of an open recording that became whole, on the disk.
 
-ghost use Rattle.std.specs.Prelude.{◌≡◌, ℕ, ◌+◌, ◌*◌, ◌<◌, ◌≤◌, ◌^◌, List, [], length, slice_index, vec_capacity, IsTrue, OnOk};
+ghost use Rattle.std.specs.Prelude.{◌≡◌, ℕ, ◌+◌, ◌*◌, ◌<◌, ◌≤◌, ◌^◌, List, [], length, slice_index, vec_capacity, IsTrue, OnOk, OnErr};
 ghost use Rattle.voice_units.specs.Layout.{bytes_needed};
 ghost use Rattle.voice_outside.specs.Disk.{MakesAtMost};
 ghost use Rattle.voice_blocks.specs.declared.owner.Owner.TheVariants as owners;
@@ -14,7 +14,7 @@ use voice_blocks::BlockMap;
 use voice_outside::Disk;
 use voice_units::{Failed, Lane, Shape};
 
-/// Writes whole blocks at the addresses of so many blocks of a lane's open recording, from an index on.
+/// Writes whole blocks at the addresses of so many blocks of a lane's open recording, from an index on. Without a block it makes no device call.
 pub(crate) fn write_whole<D: Disk>(
     shape: &Shape,
     disk: &mut D,
@@ -34,9 +34,13 @@ pub(crate) fn write_whole<D: Disk>(
     requires last { length rooms.last.items ≡ shape.now.block }
     requires fits { bytes_needed shape.now.block shape.now.blocks shape.now.area ≤ (D.told disk.old).size }
     ensures made { MakesAtMost count (D.told disk.old) (D.told disk.new) result }
+    ensures reached { OnErr result (0 < count) }
     ensures content { IsTrue (D.told disk.old).honest → (addresses : List ℕ) → AreAddresses blocks.now.holders (owners.Taking lane) from count addresses → WroteAt shape.now addresses (D.told disk.old) (D.told disk.new) }
     ensures written { IsTrue (D.told disk.old).honest → (addresses : List ℕ) → AreAddresses blocks.now.holders (owners.Taking lane) from count addresses → OnOk result ((k : ℕ) → k < length samples.now → slice_index (D.told disk.new).bytes (byte_place shape.now addresses k) ≡ slice_index samples.now k) }
 {
+    if count == 0 {
+        return Ok(());
+    }
     let Rooms { list, mut last } = rooms;
     let addresses = addresses_of(blocks, lane, from, count, list);
     write_samples(shape, disk, &addresses, samples, &mut last)

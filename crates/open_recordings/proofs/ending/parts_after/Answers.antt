@@ -36,7 +36,7 @@ add_rope-requires-clause-unknown c =
     let ending = copied c.requires.0 c.requires.1 c.args.lane c.args.parts.now c.requires.2 c.args.next.now c.requires.3 c.requires.4 c.in_ok-after.after known.alike known.spare_ropes (omega (arith, count, spare)) in
     let more = without_lane c.requires.1 c.args.lane in
     unknown c.requires.0 more c.pledge.new.parts c.requires.2 c.args.next.now c.requires.3
-    (c.pledge.ensures c.requires.0 c.requires.1 more c.requires.2 c.requires.3 ending (lane_ended c.requires.1 c.args.lane))
+    (c.pledge.ensures.ready c.requires.0 c.requires.1 more c.requires.2 c.requires.3 ending (lane_ended c.requires.1 c.args.lane))
 
 pub add_rope-requires-clause-room : goal.add_rope-requires-clause-room
 add_rope-requires-clause-room c =
@@ -44,7 +44,7 @@ add_rope-requires-clause-room c =
     let count = c.blocks_of.ensures in
     let spare = known.spare_pairs in
     let ending = copied c.requires.0 c.requires.1 c.args.lane c.args.parts.now c.requires.2 c.args.next.now c.requires.3 c.requires.4 c.in_ok-after.after known.alike known.spare_ropes (omega (arith, count, spare)) in
-    (c.pledge.ensures c.requires.0 c.requires.1 (without_lane c.requires.1 c.args.lane) c.requires.2 c.requires.3 ending (lane_ended c.requires.1 c.args.lane)).room
+    (c.pledge.ensures.ready c.requires.0 c.requires.1 (without_lane c.requires.1 c.args.lane) c.requires.2 c.requires.3 ending (lane_ended c.requires.1 c.args.lane)).room
 
 pub add_rope-requires-clause-pairs : goal.add_rope-requires-clause-pairs
 add_rope-requires-clause-pairs c =
@@ -52,7 +52,7 @@ add_rope-requires-clause-pairs c =
     let count = c.blocks_of.ensures in
     let spare = known.spare_pairs in
     let ending = copied c.requires.0 c.requires.1 c.args.lane c.args.parts.now c.requires.2 c.args.next.now c.requires.3 c.requires.4 c.in_ok-after.after known.alike known.spare_ropes (omega (arith, count, spare)) in
-    let ready = c.pledge.ensures c.requires.0 c.requires.1 (without_lane c.requires.1 c.args.lane) c.requires.2 c.requires.3 ending (lane_ended c.requires.1 c.args.lane) in
+    let ready = c.pledge.ensures.ready c.requires.0 c.requires.1 (without_lane c.requires.1 c.args.lane) c.requires.2 c.requires.3 ending (lane_ended c.requires.1 c.args.lane) in
     let most = ready.pairs in
     let same = ap (new_pairs c.pledge.new.parts.ropes) c.in_ok-pieces.ensures in
     omega (arith, most, same)
@@ -63,7 +63,7 @@ add_rope-requires-clause-fits c = λ pair e.
     let count = c.blocks_of.ensures in
     let spare = known.spare_pairs in
     let ending = copied c.requires.0 c.requires.1 c.args.lane c.args.parts.now c.requires.2 c.args.next.now c.requires.3 c.requires.4 c.in_ok-after.after known.alike known.spare_ropes (omega (arith, count, spare)) in
-    let ready = c.pledge.ensures c.requires.0 c.requires.1 (without_lane c.requires.1 c.args.lane) c.requires.2 c.requires.3 ending (lane_ended c.requires.1 c.args.lane) in
+    let ready = c.pledge.ensures.ready c.requires.0 c.requires.1 (without_lane c.requires.1 c.args.lane) c.requires.2 c.requires.3 ending (lane_ended c.requires.1 c.args.lane) in
     ready.fits pair (ap (λ ps. has_pair (pairs_at c.pledge.new.parts.ropes.block (spots_of ps)) pair) (sym c.in_ok-pieces.ensures) ∙ e)
 
 pub returns : goal.returns
@@ -72,7 +72,7 @@ returns c = λ held takings more b change h ends s.
     let count = c.blocks_of.ensures in
     let spare = known.spare_pairs in
     let ending = copied held takings c.args.lane c.args.parts.now b c.args.next.now change h c.in_ok-after.after known.alike known.spare_ropes (omega (arith, count, spare)) in
-    let ready = c.pledge.ensures held takings more b change ending ends in
+    let ready = c.pledge.ensures.ready held takings more b change ending ends in
     let number = ready.number in
     came held more c.pledge.new.parts c.pledge.new.parts c.add_rope.new.self b c.args.next.now change ready ready.runs.kept refl refl c.add_rope.ensures.form (ap (λ blocks. blocks.holders) c.add_rope.ensures.blocks)
     (c.add_rope.ensures.shows held b.form b.kept (new_samples change) ready.runs.kept (orderly_rebuilt b ready.runs.valid) (omega (arith, number))
