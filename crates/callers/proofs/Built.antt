@@ -1,5 +1,5 @@
 -- What a line with a verb that callers run asks for.
-use Rattle.std.proofs.Common.{◌≡◌, ℕ, ◌<◌, List, length, map, true, false, Some, None, refl, arith, subst}
+use Rattle.std.proofs.Common.{◌≡◌, ℕ, ◌<◌, List, length, map, Some, None, refl, arith, subst}
 use Rattle.std.specs.Prelude.{IsTrue}
 use Rattle.std.proofs.lemmas.List.{length-map}
 use Rattle.voice_model.specs.declared.calls.Call.{Call}
@@ -17,9 +17,6 @@ use Rattle.script_lang.specs.Verbs.{is_built_verb}
 use Rattle.script_lang.specs.Grammar.{verb_name}
 use Rattle.script_lang.specs.Whole.{IsLineOf}
 use Rattle.callers.specs.Lines.{IsRunnable}
-
-no : false ≡ true → ⊥
-no e = cc
 
 -- a call that a line asks, of a verb that callers run
 pub record IsAsked (tapes : List (List ℕ)) (verb : Verb) (b : List Binding) (call : Call) : Type 0 where
@@ -52,9 +49,9 @@ asked_well tapes (verbs.Queue lane rope start len) b call h same = is_asked_by t
 asked_well tapes (verbs.Play lane rope start len) b call h same = is_asked_by tapes (verbs.Play lane rope start len) b call (calls.Play lane (meant b rope) start len) same (record { built = refl; takes = λ _. tt; ropes = λ _. tt; range = λ _. tt })
 asked_well tapes (verbs.Serve lane) b call h same = cc
 asked_well tapes (verbs.Stop lane) b call h same = is_asked_by tapes (verbs.Stop lane) b call (calls.Stop lane) same (record { built = refl; takes = λ _. tt; ropes = λ _. tt; range = λ _. tt })
-asked_well tapes (verbs.Begin lane) b call h same = absurd (no h)
-asked_well tapes (verbs.Add lane tape) b call h same = absurd (no h)
-asked_well tapes (verbs.End lane) b call h same = absurd (no h)
+asked_well tapes (verbs.Begin lane) b call h same = is_asked_by tapes (verbs.Begin lane) b call (calls.Begin lane) same (record { built = refl; takes = λ _. tt; ropes = λ _. tt; range = λ _. tt })
+asked_well tapes (verbs.Add lane tape) b call h same = is_asked_by tapes (verbs.Add lane tape) b call (calls.Add lane (whole_of tapes tape)) same (record { built = refl; takes = has_whole tapes tape; ropes = λ _. tt; range = λ _. tt })
+asked_well tapes (verbs.End lane) b call h same = is_asked_by tapes (verbs.End lane) b call (calls.End lane) same (record { built = refl; takes = λ _. tt; ropes = λ _. tt; range = λ _. tt })
 asked_well tapes (verbs.Levels rope) b call h same = is_asked_by tapes (verbs.Levels rope) b call (calls.Levels (meant b rope)) same (record { built = refl; takes = λ _. tt; ropes = λ _. tt; range = λ _. tt })
 
 -- a line of a script that was read can be run

@@ -61,7 +61,9 @@ is_built_verb names.Lookup = true
 is_built_verb names.Census = true
 is_built_verb names.Advance = true
 is_built_verb names.Sweep = true
-is_built_verb _ = false
+is_built_verb names.Begin = true
+is_built_verb names.Add = true
+is_built_verb names.End = true
 
 -- the verbs that a script may have: those that are built, or all
 unfoldable pub verbs_of : Built → VerbName → Bool

@@ -121,6 +121,9 @@ impl VerbName {
                 | VerbName::Play
                 | VerbName::Serve
                 | VerbName::Stop
+                | VerbName::Begin
+                | VerbName::Add
+                | VerbName::End
                 | VerbName::Retain
                 | VerbName::Forget
                 | VerbName::Lookup

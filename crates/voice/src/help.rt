@@ -30,6 +30,8 @@ The lines of a script, each with an example; a comment begins with #:
   CALLER play LANE ROPE START LEN FILE                1 play 1 d 0 20 heard.ul
   CALLER serve LANE FILE                              1 serve 0 first.ul
   CALLER stop LANE                                    1 stop 0
+  CALLER begin LANE (then add LANE FILE)              1 begin 2
+  CALLER [VARIABLE =] end LANE                        1 e = end 2
   CALLER retain CLASS KEY ROPE NOTE                   1 retain held mail.1 d 6869
   CALLER [VARIABLE =] lookup CLASS KEY                2 m = lookup held mail.1
   CALLER forget CLASS KEY                             2 forget held mail.1

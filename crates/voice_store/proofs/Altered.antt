@@ -39,6 +39,9 @@ use Rattle.row_calls.specs.Asked as asked
 use Rattle.running_tables.proofs.Taken.{reshown}
 use Rattle.row_calls.specs.Asked.{is_row_call, Grows, IsChange}
 use Rattle.row_calls.specs.declared.outcomes.Growth.{Growth}
+use Rattle.voice_store.specs.declared.going.Going.TheVariants as goings
+use Rattle.voice_store.specs.Going.{IsGoingIn}
+use Rattle.voice_store.proofs.Filled.{takes_same}
 use Rattle.voice_store.specs.declared.inside.Inside.{Inside}
 use Rattle.voice_store.specs.declared.ways.Way.TheVariants as ways
 use Rattle.voice_store.specs.Stood.{IsSure, Stood, last_of, tapes_of}
@@ -111,6 +114,9 @@ module _ (first : State) (t0 : ℕ) (disk : Told) (s : Inside) (call : Call) (re
   pub ready_in : IsReadyIn s (Other ready)
   ready_in = record { held = h.stood.held; takings = h.stood.takings; b = b; c = change; ready = keeps.next; in_shape = same_shape first t0 disk s h.stood h.sure }
 
+  pub going_in : IsGoingIn s.journal.shape s.parts (goings.Change (Other ready))
+  going_in = record { held = h.stood.held; takings = h.stood.takings; more = h.stood.takings; b = b; c = change; ready = (refl, keeps.next); in_shape = same_shape first t0 disk s h.stood h.sure }
+
   pub weighs : Weighs s b (Other ready) change last effect
   weighs = record {
     held = h.stood.held;
@@ -139,7 +145,7 @@ module _ (first : State) (t0 : ℕ) (disk : Told) (s : Inside) (call : Call) (re
   no_rope : brings_rope change ≡ false
   no_rope = (plain s.parts.interests.spare b.kept ready.act change keeps.next.ready.does).no_rope
 
-  pub trying_change : Foundations → (IsTrue disk.honest → IsHonest disk) → (caller : ℕ) → is_journal_full last effect ≡ false → Trying first t0 disk s b (Other ready) change effect caller call reply
+  pub trying_change : Foundations → (IsTrue disk.honest → IsHonest disk) → (caller : ℕ) → is_journal_full last effect ≡ false → Trying first t0 disk s b (goings.Change (Other ready)) change effect caller call reply
   trying_change laws honest caller free =
       let up = upright_by first t0 disk s h.stood h.sure s.parts (λ a holder held. held) in
       record {
@@ -149,11 +155,18 @@ module _ (first : State) (t0 : ℕ) (disk : Told) (s : Inside) (call : Call) (re
         in_journal = sure.in_journal;
         held = h.stood.held;
         takings = h.stood.takings;
+        more = h.stood.takings;
         holding = h.stood.holding;
-        ready = keeps.next;
+        ready = (refl, keeps.next);
+        holding_then = h.stood.holding;
+        jobs = refl;
+        takes = takes_same last last refl;
+        recorded = h.stood.playing.recorded;
+        will_have = λ told. tt;
         playing = h.stood.playing;
         addresses = [];
         change = refl;
+        lanes = last.lanes;
         may = may_commit last (tapes_of s) caller call effect making sure.in_state (altering_free free) keeps.is;
         replies = h.makes.replied;
         in_range = h.range;

@@ -20,10 +20,11 @@ use Rattle.voice_model.specs.declared.calls.Why.TheVariants as why
 use Rattle.voice_model.specs.declared.calls.Entry.{Entry}
 use Rattle.voice_model.specs.declared.changes.Change.{Change}
 use Rattle.voice_model.proofs.ReadAgain.{spelled_is_read}
-use Rattle.next_changes.specs.declared.NextChange.{NextChange}
-use Rattle.next_changes.specs.Next.{payload_of}
-use Rattle.next_changes.specs.Laws.{IsGiven}
-use Rattle.next_changes.proofs.Given.{given}
+use Rattle.next_changes.specs.Next.{IsNext}
+use Rattle.voice_blocks.specs.Holders.{Holders}
+use Rattle.voice_store.specs.declared.going.Going.{Going}
+use Rattle.voice_store.specs.Going.{payload_in, counted_as, IsCounted, closed_in}
+use Rattle.voice_store.proofs.OnItsWay.{IsOnItsWay, on_its_way}
 use Rattle.running_tables.specs.Running.{Runs}
 use Rattle.recovery.specs.declared.parts.Parts.{Parts}
 use Rattle.crash_laws.specs.Standing.{IsLater}
@@ -57,8 +58,8 @@ committed_by fits s effect =
 pub fits_behind : (s : State) (effect : Effect Tagged) → frame_size s.form s.kept.shape.block effect ≤ s.left → committed s s.form effect ≡ committed_by true s effect
 fits_behind s effect fits = ap (λ (b : Bool). committed_by b s effect) (le-leb (frame_size s.form s.kept.shape.block effect) s.left fits)
 
-module _ (first : State) (t0 : ℕ) (old new : Told) (s s' : Inside) (b : Rebuilt) (next : NextChange) (c : Change) (effect : Effect Tagged) (caller : ℕ) (call : Call) (reply : Reply)
-    (tr : Trying first t0 old s b next c effect caller call reply) (later : old.calls ≤ new.calls) (sizes : new.size ≡ old.size)
+module _ (first : State) (t0 : ℕ) (old new : Told) (s s' : Inside) (b : Rebuilt) (going : Going) (c : Change) (effect : Effect Tagged) (caller : ℕ) (call : Call) (reply : Reply)
+    (tr : Trying first t0 old s b going c effect caller call reply) (later : old.calls ≤ new.calls) (sizes : new.size ≡ old.size)
     (alike : new.honest ≡ old.honest) (moments : IsTrue old.honest → IsLater old new) where
   abbrev end : State
   end = last_of first s
@@ -67,39 +68,43 @@ module _ (first : State) (t0 : ℕ) (old new : Told) (s s' : Inside) (b : Rebuil
   honest h = subst (λ (x : Bool). IsTrue x) alike h
 
   abbrev pub entry_done : Entry
-  entry_done = said first t0 old new s s' b next c effect caller call reply tr later sizes alike reply
+  entry_done = said first t0 old new s s' b going c effect caller call reply tr later sizes alike reply
 
   abbrev pub entry_failed : Entry
-  entry_failed = said first t0 old new s s' b next c effect caller call reply tr later sizes alike (replies.No why.DiskFault)
+  entry_failed = said first t0 old new s s' b going c effect caller call reply tr later sizes alike (replies.No why.DiskFault)
 
   abbrev pub entry_waits : Entry
-  entry_waits = said first t0 old new s s' b next c effect caller call reply tr later sizes alike (replies.No why.InDoubt)
+  entry_waits = said first t0 old new s s' b going c effect caller call reply tr later sizes alike (replies.No why.InDoubt)
 
   -- ---- it failed before it counted, in whatever way it went
 
   stays_durable : KeepsDurable end (state_after end (tapes_of s) entry_failed)
   stays_durable =
-      let is = next_failed first t0 old new s s' b next c effect caller call reply tr later sizes alike in
+      let is = next_failed first t0 old new s s' b going c effect caller call reply tr later sizes alike in
       record { kept = ap (λ (t : State). t.kept) is; doubt = ap (λ (t : State). t.doubt) is; form = ap (λ (t : State). t.form) is; left = ap (λ (t : State). t.left) is }
 
   pub failed_stood : s'.tapes ≡ s.tapes → s'.history.items ≡ s.history.items ++ entry_failed ∷ []
       → (IsTrue old.honest → SameElsewhere s.journal.shape old.bytes new.bytes) → KeepsAddresses s.parts.blocks.holders s'.parts.blocks.holders
-      → s'.journal.shape ≡ s.journal.shape → s'.journal.seat ≡ s.journal.seat → s'.journal.doubt ≡ None → s'.doubt ≡ None → Unmoved s s' → Runs tr.held [] tr.takings s'.parts b
+      → s'.journal.shape ≡ s.journal.shape → s'.journal.seat ≡ s.journal.seat → s'.journal.doubt ≡ None → s'.doubt ≡ None → s'.recordings ≡ s.recordings → Unmoved s s' → Runs tr.held [] tr.takings s'.parts b
       → FailuresCarry old new → (IsTrue old.honest → Undoes s.journal s'.journal old new) → Stood first t0 new s'
-  failed_stood tapes items elsewhere keeps shape seat sure none unmoved tables carry undoes =
-      stood_failed first t0 old new s s' b next c effect caller call reply tr later sizes alike tapes items elsewhere keeps shape seat sure none unmoved tables
+  failed_stood tapes items elsewhere keeps shape seat sure none recordings unmoved tables carry undoes =
+      stood_failed first t0 old new s s' b going c effect caller call reply tr later sizes alike tapes items elsewhere keeps shape seat sure none recordings unmoved tables
       (λ h. let h' = honest h in
       carry.before first (tapes_of s) t0 s.journal s'.journal b b s.history.items entry_failed (moments h') (tr.upright.held h') tr.may.sure (undoes h') refl stays_durable)
 
-  abbrev gives : IsGiven tr.held tr.takings s.parts b next c
-  gives = given tr.held tr.takings s.parts b next c tr.ready
+  abbrev gives : IsOnItsWay tr.held tr.takings s.parts b going c
+  gives = on_its_way tr.held tr.takings tr.more s.parts b going c tr.ready
 
-  module _ (payload : List ℕ) (payload_is : payload ≡ payload_of next) (fits : FitsBehind end effect) where
+  -- the state once its recording is closed, where it ends one
+  abbrev closed : State
+  closed = record end { lanes = tr.lanes }
+
+  module _ (payload : List ℕ) (payload_is : payload ≡ payload_in going) (fits : FitsBehind end effect) where
     abbrev then : State
-    then = committed end end.form effect
+    then = committed closed end.form effect
 
-    is_then : then ≡ committed_by true end effect
-    is_then = fits_behind end effect fits.fits
+    is_then : then ≡ committed_by true closed effect
+    is_then = fits_behind closed effect fits.fits
 
     change : IsTrue old.honest → IsChange old.bytes end effect b payload c
     change h = record {
@@ -119,44 +124,46 @@ module _ (first : State) (t0 : ℕ) (old new : Told) (s s' : Inside) (b : Rebuil
         let left = was.left in
         let frame = tr.frame in
         let long = fits.fits in
-        let size : length payload ≡ length (payload_of next) = ap length payload_is in
+        let size : length payload ≡ length (payload_in going) = ap length payload_is in
         subst (λ (t : State). IsSeated (record s.journal { seat = landed_seat s.journal.seat (Record (length payload)) }) t) (sym is_then)
         (record { shape = changed_shape end.form end.kept effect ∙ was.shape; left = omega (arith, left, frame, long, size); epoch = was.epoch })
 
     committed_then : IsCommitted end effect end.form (state_after end (tapes_of s) entry_done)
     committed_then =
-        let is = next_done first t0 old new s s' b next c effect caller call reply tr later sizes alike ∙ is_then in
+        let is = next_done first t0 old new s s' b going c effect caller call reply tr later sizes alike ∙ is_then in
         record { kept = ap (λ (t : State). t.kept) is; doubt = ap (λ (t : State). t.doubt) is ∙ tr.may.sure; form = ap (λ (t : State). t.form) is }
 
     pub appended_stood : s'.tapes ≡ s.tapes → s'.history.items ≡ s.history.items ++ entry_done ∷ []
-        → (IsTrue old.honest → SameElsewhere s.journal.shape old.bytes new.bytes) → KeepsAddresses s.parts.blocks.holders s'.parts.blocks.holders
-        → s'.journal.shape ≡ s.journal.shape → s'.journal.seat ≡ landed_seat s.journal.seat (Record (length payload)) → s'.journal.doubt ≡ None → s'.doubt ≡ None → Forgot s s'
-        → Runs tr.held [] tr.takings s'.parts (acted b c)
+        → (IsTrue old.honest → SameElsewhere s.journal.shape old.bytes new.bytes) → (counted : Holders) → IsCounted going s.parts.blocks.holders counted → KeepsAddresses counted s'.parts.blocks.holders
+        → s'.journal.shape ≡ s.journal.shape → s'.journal.seat ≡ landed_seat s.journal.seat (Record (length payload)) → s'.journal.doubt ≡ None → s'.doubt ≡ None → s'.recordings ≡ closed_in going s.recordings → Forgot s s'
+        → Runs tr.held [] tr.more s'.parts (acted b c)
         → AppendsCarry old new → (IsTrue old.honest → Does (λ r. with_payload r payload) s.journal s'.journal old new × StaysWithin (λ r. with_payload r payload) s.journal old new)
         → Stood first t0 new s'
-    appended_stood tapes items elsewhere keeps shape seat sure none forgot tables carry does =
-        stood_done first t0 old new s s' b next c effect caller call reply tr later sizes alike (acted b c) (Record (length payload)) tapes items elsewhere keeps shape seat sure none forgot tables fills_then seated_then
+    appended_stood tapes items elsewhere counted counts keeps shape seat sure none recordings forgot tables carry does =
+        stood_done first t0 old new s s' b going c effect caller call reply tr later sizes alike (acted b c) (Record (length payload)) tapes items elsewhere counted counts keeps shape seat sure none recordings forgot tables fills_then seated_then
         (λ h. let h' = honest h in let d = does h' in
         carry.ok first (tapes_of s) t0 s.journal s'.journal b b s.history.items effect payload c entry_done (moments h') (tr.upright.held h') tr.may.sure (change h') d.0 d.1 refl committed_then)
 
     waits_then : IsInDoubt end effect (state_after end (tapes_of s) entry_waits)
     waits_then =
-        let is = next_waits first t0 old new s s' b next c effect caller call reply tr later sizes alike in
+        let is = next_waits first t0 old new s s' b going c effect caller call reply tr later sizes alike in
         record { kept = ap (λ (t : State). t.kept) is; doubt = ap (λ (t : State). t.doubt) is; form = ap (λ (t : State). t.form) is; left = ap (λ (t : State). t.left) is }
 
     -- the tables once it lands
     in_form_then : (held : List (List Piece)) (takings : List ℕ) (parts : Parts) → Runs held [] takings parts (acted b c) → Runs held [] takings (in_form s.parts.form parts) (acted b c)
     in_form_then held takings parts shows = subst (λ (f : ℕ). Runs held [] takings (in_form f parts) (acted b c)) (shows.in_form ∙ acted_form b c gives.kind ∙ sym gives.runs.in_form) shows
 
-    pub append_waits : (doubted : Doubted) → doubted.next ≡ next → doubted.form ≡ s.parts.form → s'.tapes ≡ s.tapes
+    pub append_waits : (doubted : Doubted) → doubted.next ≡ counted_as going → doubted.form ≡ s.parts.form → s'.tapes ≡ s.tapes
         → s'.history.items ≡ s.history.items ++ entry_waits ∷ []
         → (IsTrue old.honest → SameElsewhere s.journal.shape old.bytes new.bytes)
-        → s'.journal.shape ≡ s.journal.shape → s'.journal.seat ≡ s.journal.seat → s'.journal.doubt ≡ Some (Record (length payload)) → s'.doubt ≡ Some doubted → s'.parts ≡ s.parts → Unmoved s s'
+        → s'.journal.shape ≡ s.journal.shape → s'.journal.seat ≡ s.journal.seat → s'.journal.doubt ≡ Some (Record (length payload)) → s'.doubt ≡ Some doubted
+        → IsNext tr.held tr.more s'.parts b (counted_as going) c → IsCounted going s.parts.blocks.holders s'.parts.blocks.holders → s'.recordings ≡ closed_in going s.recordings → Unmoved s s'
         → AppendsCarry old new → (IsTrue old.honest → Doubts (λ r. with_payload r payload) s.journal s'.journal old new × StaysWithin (λ r. with_payload r payload) s.journal old new)
         → Stood first t0 new s'
-    append_waits doubted same form tapes items elsewhere shape seat unsure some parts unmoved carry doubts =
-        stood_waits first t0 old new s s' b next c effect caller call reply tr later sizes alike (acted b c) (Record (length payload)) doubted same tapes items elsewhere shape seat unsure some parts unmoved
+    append_waits doubted same form tapes items elsewhere shape seat unsure some ready counts recordings unmoved carry doubts =
+        stood_waits first t0 old new s s' b going c effect caller call reply tr later sizes alike (acted b c) (Record (length payload)) doubted same tapes items elsewhere shape seat unsure some ready counts recordings unmoved
         (λ held takings p shows. subst (λ (f : ℕ). Runs held [] takings (in_form f p) (acted b c)) (sym form) (in_form_then held takings p shows))
+        (λ holders there. there)
         fills_then
         seated_then
         (λ h. let h' = honest h in let d = doubts h' in

@@ -31,10 +31,10 @@ use Rattle.voice_store.specs.declared.committing.Plan.TheVariants as plans
 use Rattle.voice_store.specs.Stood.{Stood, IsUnsure, last_of, tapes_of}
 use Rattle.voice_store.specs.Trying.{IsPlan}
 use Rattle.voice_store.specs.Ways.{FitsOther}
-use Rattle.voice_store.specs.Facts.{most_reads, landing_at}
+use Rattle.voice_store.specs.Facts.{landing_at}
 use Rattle.voice_store.specs.Keeping.{HasWay, HoldsRecording, recorded_by}
 use Rattle.voice_store.specs.Altering.{Alters}
-use Rattle.voice_store.specs.DeviceCalls.{journal_calls, plan_calls, blocks_written, effect_calls, calls_by, change_calls, landing_calls, most_calls}
+use Rattle.voice_store.specs.DeviceCalls.{journal_calls, plan_calls, blocks_written, effect_calls, calls_by, change_calls, landing_calls, add_calls, other_calls, most_calls}
 use Rattle.voice_store.proofs.Entries.{after_one}
 use Rattle.voice_store.proofs.Kept.{refused_not, is_sure}
 use Rattle.voice_store.proofs.Altered as altered
@@ -69,9 +69,9 @@ plan_within journal s effect r (plans.Switch base) is = switch_most s effect is.
 -- ---- of a change
 
 -- a change that nothing refuses
-pub change_made : (s : State) (tapes : List (List ℕ)) (call : Call) (effect : Effect Tagged) → refusal s tapes call ≡ None → effect_of s tapes call ≡ Some effect → effect_calls s effect ≡ change_calls s tapes call
+pub change_made : (s : State) (tapes : List (List ℕ)) (call : Call) (effect : Effect Tagged) → refusal s tapes call ≡ None → effect_of s tapes call ≡ Some effect → effect_calls s call effect ≡ change_calls s tapes call
 unfolding change_calls
-change_made s tapes call effect free is = sym (ap (λ w. calls_by s w (effect_of s tapes call)) free ∙ ap (calls_by s None) is)
+change_made s tapes call effect free is = sym (ap (λ w. calls_by s call w (effect_of s tapes call)) free ∙ ap (calls_by s call None) is)
 
 sum_within : (old new plan journal blocks most : ℕ) → new ≤ old + plan → plan ≤ journal → blocks + journal ≡ most → new ≤ old + most
 sum_within old new plan journal blocks most le few is = omega (arith, le, few, is)
@@ -80,7 +80,7 @@ sum_within old new plan journal blocks most le few is = omega (arith, le, few, i
 pub committed_within : (old new : ℕ) (journal : JournalValue) (s : State) (tapes : List (List ℕ)) (call : Call) (effect : Effect Tagged) (r : Rebuilt) (plan : Plan)
     → refusal s tapes call ≡ None → effect_of s tapes call ≡ Some effect → IsPlan journal s effect r plan → new ≤ old + plan_calls plan → new ≤ old + change_calls s tapes call
 committed_within old new journal s tapes call effect r plan free is goes le =
-    sum_within old new (plan_calls plan) (journal_calls s effect) (blocks_written s effect) (change_calls s tapes call) le (plan_within journal s effect r plan goes) (change_made s tapes call effect free is)
+    sum_within old new (plan_calls plan) (journal_calls s effect) (blocks_written s call effect) (change_calls s tapes call) le (plan_within journal s effect r plan goes) (change_made s tapes call effect free is)
 
 -- of an edit
 pub edited_within : (first : State) (t0 : ℕ) (disk : Told) (s : Inside) (call : Call) (pieces : List Piece) (way : Way) (h : HasWay first t0 disk s call pieces way) (r : Rebuilt) (plan : Plan) (new : ℕ)
@@ -99,7 +99,7 @@ altered_within first t0 disk s call ready reply growth h r plan new goes free le
     free (altered.keeps first t0 disk s call ready reply growth h).is goes le
 
 -- of a recording
-blocks_recorded : (s : State) (tapes : List (List ℕ)) (take : Take) → blocks_written s (recorded_by s tapes take) ≡ blocks_for s.kept.shape.block (length (taken tapes take))
+blocks_recorded : (s : State) (tapes : List (List ℕ)) (take : Take) → blocks_written s (calls.Record take) (recorded_by s tapes take) ≡ blocks_for s.kept.shape.block (length (taken tapes take))
 unfolding blocks_written
 blocks_recorded s tapes take = ap (blocks_for s.kept.shape.block) (recorded_length s.next 0 (taken tapes take))
 
@@ -110,10 +110,10 @@ module _ (first : State) (t0 : ℕ) (disk : Told) (s : Inside) (take : Take) (ne
   free : refusal last (tapes_of s) (calls.Record take) ≡ None
   free = recording_free first t0 disk (record s { parts = h.before }) take h.makes h.free
 
-  made : effect_calls last (recorded_by last (tapes_of s) take) ≡ change_calls last (tapes_of s) (calls.Record take)
+  made : effect_calls last (calls.Record take) (recorded_by last (tapes_of s) take) ≡ change_calls last (tapes_of s) (calls.Record take)
   made = change_made last (tapes_of s) (calls.Record take) (recorded_by last (tapes_of s) take) free refl
 
-  blocks : blocks_written last (recorded_by last (tapes_of s) take) ≡ blocks_for s.journal.shape.block take.len
+  blocks : blocks_written last (calls.Record take) (recorded_by last (tapes_of s) take) ≡ blocks_for s.journal.shape.block take.len
   blocks =
       blocks_recorded last (tapes_of s) take
       ∙ ap (blocks_for last.kept.shape.block) (many first t0 disk (record s { parts = h.before }) take h.makes)
@@ -151,11 +151,18 @@ last_landed first s s' ack tapes items =
 
 pub most_change : (s : State) (tapes : List (List ℕ)) (call : Call) → IsTrue (is_changing call) → landing_calls s + change_calls (landed s) tapes call ≡ most_calls s tapes call
 unfolding most_calls
-most_change s tapes call changing = sym (ap (λ b. cond b (landing_calls s + change_calls (landed s) tapes call) (most_reads s call)) changing)
+most_change s tapes call changing = sym (ap (λ b. cond b (landing_calls s + change_calls (landed s) tapes call) (other_calls s tapes call)) changing)
 
-pub most_other : (s : State) (tapes : List (List ℕ)) (call : Call) → is_changing call ≡ false → most_reads s call ≡ most_calls s tapes call
+pub most_other : (s : State) (tapes : List (List ℕ)) (call : Call) → is_changing call ≡ false → other_calls s tapes call ≡ most_calls s tapes call
 unfolding most_calls
-most_other s tapes call not = sym (ap (λ b. cond b (landing_calls s + change_calls (landed s) tapes call) (most_reads s call)) not)
+most_other s tapes call not = sym (ap (λ b. cond b (landing_calls s + change_calls (landed s) tapes call) (other_calls s tapes call)) not)
+
+-- of an Add
+pub added_within : (s t : State) (tapes : List (List ℕ)) (call : Call) (lane : ℕ) (take : Take) (old new : ℕ) → call ≡ calls.Add lane take → t ≡ s → new ≤ old + add_calls t tapes lane take → new ≤ old + most_calls s tapes call
+added_within s t tapes call lane take old new is same le =
+    let most : add_calls s tapes lane take ≡ most_calls s tapes call = most_other s tapes (calls.Add lane take) refl ∙ ap (most_calls s tapes) (sym is) in
+    let here = ap (λ (x : State). add_calls x tapes lane take) same in
+    omega (arith, le, here, most)
 
 -- of a call whose landing failed, and of one that was made
 pub unlanded_within : (s : State) (tapes : List (List ℕ)) (call : Call) (old new : ℕ) → IsTrue (is_changing call) → new ≤ old + landing_calls s → new ≤ old + most_calls s tapes call

@@ -17,6 +17,7 @@ use Rattle.crash_laws.specs.Standing.{IsHeld, IsHonest}
 use Rattle.crash_laws.specs.Calls.{KeepsDurable}
 use Rattle.crash_laws.specs.Laws.{EntriesCount}
 use Rattle.voice_store.specs.declared.inside.Inside.{Inside}
+use Rattle.voice_store.specs.Filled.{HaveBytes}
 use Rattle.voice_store.specs.Stood.{last_state, tapes_of, last_of, Fills, Brings, IsSeated, AcksRise, IsHolding, Upright, IsSure, Lands, IsUnsure, Plays, Stood}
 
 pub after_one : (s : State) (tapes : List (List ℕ)) (es : List Entry) (e : Entry) → after s tapes (es ++ e ∷ []) ≡ state_after (after s tapes es) tapes e
@@ -95,7 +96,7 @@ module _ (first : State) (t0 : ℕ) (disk : Told) (s : Inside) (history : Vec En
           seated = subst (λ (t : State). IsSeated s.journal t) (sym more.last) stood.upright.seated;
           acks = more.acks;
           held = more.held;
-          bytes = stood.upright.bytes;
+          bytes = λ h. subst (λ (t : State). HaveBytes stood.fill s.journal.shape disk.bytes s.parts.blocks.holders t) (sym more.last) (stood.upright.bytes h);
         };
         tables = tables_noted stood.tables more.last;
         playing = subst (λ (t : State). Plays stood.fill disk.honest s t) (sym more.last) stood.playing;

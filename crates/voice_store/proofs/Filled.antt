@@ -1,10 +1,10 @@
 -- The bytes of the blocks that have an address, as the disk and the tables change.
-use Rattle.std.proofs.Common.{◌≡◌, ◌⊎◌, ⊎_elim, ℕ, zero, suc, ◌+◌, ◌*◌, ◌%◌, ◌<◌, ◌≤◌, ◌==◌, Bool, true, false, cond, List, [], ◌∷◌, ◌++◌, append-nil, append_assoc, length, Some, None, refl, sym, ◌∙◌, ap, subst, arith}
-use Rattle.std.specs.Prelude.{slice_index}
+use Rattle.std.proofs.Common.{◌≡◌, ◌⊎◌, inl, ⊎_elim, ℕ, zero, suc, ◌+◌, ◌*◌, ◌/◌, ◌%◌, ◌<◌, ◌≤◌, ◌==◌, Bool, true, false, cond, List, [], ◌∷◌, ◌++◌, append-nil, append_assoc, length, replicate, Some, None, refl, sym, ◌∙◌, ap, subst, arith}
+use Rattle.std.specs.Prelude.{slice_index, slice_index_or, unwrap_or}
 use Rattle.std.proofs.lemmas.Bool.{ltb-true, eqb-true}
 use Rattle.std.proofs.lemmas.List.Folds.{list_any-append}
 use Rattle.std.proofs.lemmas.Nat.{div-mul-add, mod-mul-add}
-use Rattle.std.proofs.Math.Nat.{mul-le-mul_right, add-mul, one-mul}
+use Rattle.std.proofs.Math.Nat.{mul-le-mul_right, add-mul, one-mul, zero-div}
 use Rattle.voice_units.specs.declared.shapes.Shape.{Shape}
 use Rattle.voice_units.specs.declared.pieces.Piece.{Piece}
 use Rattle.voice_units.specs.Spots.{Spot, spots_of, spots_from, pieces_of}
@@ -13,10 +13,12 @@ use Rattle.voice_units.specs.Blocks.{BlockPair, same_pair, has_pair, pairs_at, p
 use Rattle.voice_blocks.specs.Holders.{Holders, holder_at, block_of}
 use Rattle.voice_blocks.specs.Place.{block_place}
 use Rattle.voice_blocks.specs.declared.owner.Owner.{Owner}
-use Rattle.voice_blocks.specs.declared.owner.Owner.TheVariants.{File}
+use Rattle.voice_blocks.specs.declared.owner.Owner.TheVariants.{File, Taking}
 use Rattle.voice_blocks.specs.declared.owner.Holder.{Holder}
 use Rattle.voice_journal.specs.Readings.{data_start, SameElsewhere}
 use Rattle.voice_model.specs.Samples.{Tagged, spot_of}
+use Rattle.voice_model.specs.State.{State, LaneState, quiet_lane}
+use Rattle.voice_model.specs.Changes.{taking_of}
 use Rattle.voice_model.specs.Replay.{Placed, Rebuilt, address_of, filled, placed_from, used_pairs}
 use Rattle.voice_model.proofs.PlacesKept.{used_placed, same_itself}
 use Rattle.voice_model.specs.Places.{Pairwise, OfOtherBlock}
@@ -33,7 +35,9 @@ use Rattle.running_tables.proofs.Taken.{first_blocks, none_yet}
 use Rattle.fillings.specs.Laws.{HasBytes}
 use Rattle.recording_writer.specs.Wrote.{SameOutside, byte_place}
 use Rattle.next_ropes.specs.Addresses.{KeepsAddresses, HandsOut}
-use Rattle.voice_store.specs.Filled.{IsFilled, IsPadded}
+use Rattle.recording_adds.specs.Adds.{HasWhole}
+use Rattle.voice_store.specs.Filled.{IsFilled, HaveBytes, IsPadded}
+use Rattle.voice_store.specs.Playing.{KeepsTakings}
 use Rattle.voice_store.proofs.Spared.{outside_of}
 use Rattle.voice_store.proofs.Taking.{later_fill, later_other, later_here}
 
@@ -53,6 +57,40 @@ pub still_filled : (fill : Spot → Tagged) (shape : Shape) (old new : List ℕ)
 still_filled fill shape old new had has keeps stays was = record {
   each = λ a file index k held less. stays (block_place shape a + k) (omega arith) ∙ was.each a file index k (keeps a (block_of (File file) index) held) less;
 }
+
+-- ---- whole blocks of open recordings
+
+-- a recording without bytes has no whole block
+no_whole : (block index : ℕ) (bytes : List ℕ) → bytes ≡ [] → ¬ (index < length bytes / block)
+no_whole block index bytes none less = let nothing = ap (λ (l : List ℕ). length l / block) none ∙ zero-div block in absurd (omega (arith, less, nothing))
+
+pub nothing_whole : (shape : Shape) (image : List ℕ) (holders : Holders) (lane : ℕ) (bytes : List ℕ) → bytes ≡ [] → HasWhole shape image holders lane bytes
+nothing_whole shape image holders lane bytes none a index k held less within = absurd (no_whole shape.block index bytes none less)
+
+-- no lane of a disk that was just opened records
+pub quiet_taking : (n lane : ℕ) → unwrap_or (slice_index_or (replicate n quiet_lane) lane quiet_lane).taking [] ≡ []
+quiet_taking zero lane = refl
+quiet_taking (suc n) zero = refl
+quiet_taking (suc n) (suc lane) = quiet_taking n lane
+
+-- they keep their bytes where the bytes behind the areas stay, as far as recordings keep theirs
+pub still_whole : (shape : Shape) (old new : List ℕ) (had has : Holders) (last now : State) → KeepsTakings last now → KeepsAddresses had has → StaysBehind shape old new
+    → ((lane : ℕ) → HasWhole shape old had lane (taking_of last lane)) → (lane : ℕ) → HasWhole shape new has lane (taking_of now lane)
+still_whole shape old new had has last now takes keeps stays was lane a index k held less within =
+    ⊎_elim
+    (λ same. stays (block_place shape a + k) (omega arith) ∙ was lane a index k (keeps a (block_of (Taking lane) index) held) (subst (λ (bytes : List ℕ). index < length bytes / shape.block) same less) within
+    ∙ ap (λ (bytes : List ℕ). slice_index bytes (index * shape.block + k)) (sym same))
+    (λ none. absurd (no_whole shape.block index (taking_of now lane) none less))
+    (takes lane)
+
+-- all blocks keep their bytes
+pub still_has : (fill : Spot → Tagged) (shape : Shape) (old new : List ℕ) (had has : Holders) (last now : State) → KeepsTakings last now → KeepsAddresses had has → StaysBehind shape old new → HaveBytes fill shape old had last → HaveBytes fill shape new has now
+still_has fill shape old new had has last now takes keeps stays was =
+    record { filled = still_filled fill shape old new had has keeps stays was.filled; whole = still_whole shape old new had has last now takes keeps stays was.whole }
+
+-- lanes that are the same keep their recordings
+pub takes_same : (old new : State) → new.lanes ≡ old.lanes → KeepsTakings old new
+takes_same old new lanes = λ lane. inl (ap (λ (ls : List LaneState). unwrap_or (slice_index_or ls lane quiet_lane).taking []) lanes)
 
 -- ---- a disk that was opened
 
@@ -156,6 +194,23 @@ module _ (fill : Spot → Tagged) (spots : (x : Spot) → spot_of (fill x) ≡ x
         let now = keeps a (block_of (File f) index) held in
         ⊎_elim (λ before. stays a f index k before now less) (λ own. absurd (gone a index (held ∙ ap (λ (o : Owner). Some (block_of o index)) own))) (hands a (block_of (File f) index) now);
   }
+
+  -- whole blocks of open recordings have none of these addresses, and keep their bytes
+  pub elsewhere_whole : (last : State) → ((lane : ℕ) → HasWhole shape old had lane (taking_of last lane)) → (to : Holders) → KeepsAddresses has to → (lane : ℕ) → HasWhole shape new to lane (taking_of last lane)
+  elsewhere_whole last before to keeps lane a index k held less within =
+      let now = keeps a (block_of (Taking lane) index) held in
+      let had_it : holder_at had a ≡ Some (block_of (Taking lane) index) = ⊎_elim (λ same. same) (λ own. absurd (no_file own)) (hands a (block_of (Taking lane) index) now) in
+      outside.outside (block_place shape a + k) (outside_of shape addresses a (block_place shape a + k) (λ n low same. other n low same now) (omega arith) (omega (arith, within)))
+      ∙ before lane a index k had_it less within
+    where
+      no_file : Taking lane ≡ File file → ⊥
+      no_file e = cc
+
+      other : (n : ℕ) → n < length addresses → slice_index addresses n ≡ a → holder_at has a ≡ Some (block_of (Taking lane) index) → ⊥
+      other n low same now =
+          let file_there : Some (block_of (File file) n) ≡ Some (block_of (Taking lane) index) = sym (each n low) ∙ ap (holder_at has) same ∙ now in
+          let one : block_of (File file) n ≡ block_of (Taking lane) index = cc in
+          no_file (sym (ap (λ (h : Holder). h.owner) one))
 
   module _ (bytes : List ℕ) (only : (a index : ℕ) → holder_at has a ≡ Some (block_of (File file) index) → index < length addresses)
       (single : (a c : ℕ) (h : Holder) → holder_at has a ≡ Some h → holder_at has c ≡ Some h → a ≡ c) (wrote : HasBytes new shape addresses bytes) (padded : IsPadded new shape addresses (length bytes)) where

@@ -1,5 +1,6 @@
 -- The state as which a disk opens.
-use Rattle.voice_store.proofs.Filled.{opened_filled}
+use Rattle.recording_calls.specs.Shown.{ShowsRecordings}
+use Rattle.voice_store.proofs.Filled.{opened_filled, nothing_whole, quiet_taking}
 use Rattle.std.proofs.Common.{◌≡◌, inl, ℕ, zero, suc, ◌+◌, ◌-◌, ◌≤◌, ◌<◌, List, [], ◌∷◌, replicate, Some, None, IsTrue, false, refl, sym, ◌∙◌, ap, subst, arith}
 use Rattle.std.proofs.lemmas.List.{length-replicate}
 use Rattle.std.specs.Prelude.{slice_get}
@@ -15,6 +16,7 @@ use Rattle.voice_journal.specs.Stands.{IsAt}
 use Rattle.voice_journal.specs.declared.lists.Placed.{Placed}
 use Rattle.voice_journal.specs.declared.opening.Opened.{Opened}
 use Rattle.voice_model.specs.State.{State, opened, quiet_lane}
+use Rattle.voice_model.specs.Changes.{taking_of}
 use Rattle.voice_model.specs.Step.{after}
 use Rattle.voice_model.specs.Heard.{LegalOn}
 use Rattle.voice_model.specs.Replay.{Rebuilt, nothing_rebuilt, filled, recovered}
@@ -147,8 +149,8 @@ module _ (t0 : ℕ) (bytes : List ℕ) (disk : Told) (s : Inside) (b : Rebuilt) 
   pub stood_first : replayed (nothing_rebuilt s.journal.shape) (records_of ps) ≡ Replayed.All b → Rebuilds s.parts b → s.doubt ≡ None → s.journal.doubt ≡ None
       → 16 ≤ s.journal.seat.gate → s.journal.seat.gate < s.journal.shape.area
       → t0 ≤ disk.calls → extent s.journal.shape ≤ disk.size → (IsTrue disk.honest → IsHeld begin (tapes_of s) t0 s.journal disk b b [])
-      → (IsTrue disk.honest → disk.bytes ≡ bytes) → IsEmptyOf s.journal.shape s.lanes → s.made ≡ 0 → Stood begin t0 disk s
-  stood_first rebuilds tables none sure from within past size held same empty unmade = record {
+      → (IsTrue disk.honest → disk.bytes ≡ bytes) → IsEmptyOf s.journal.shape s.lanes → s.made ≡ 0 → ((t : State) → t.lanes ≡ replicate s.journal.shape.lanes quiet_lane → ShowsRecordings s.recordings t) → Stood begin t0 disk s
+  stood_first rebuilds tables none sure from within past size held same empty unmade unrecorded = record {
     fill = filled bytes b;
     b = b;
     after = b;
@@ -166,14 +168,17 @@ module _ (t0 : ℕ) (bytes : List ℕ) (disk : Told) (s : Inside) (b : Rebuilt) 
       });
       acks = subst (λ (l : List Entry). AcksRise t0 l disk.calls) (sym items) past;
       held = λ honest. subst (λ (l : List Entry). IsHeld begin (tapes_of s) t0 s.journal disk b b l) (sym items) (held honest);
-      bytes = λ honest. opened_filled bytes disk.bytes s.journal.shape b s.parts.blocks.holders (shape_rebuilt s.journal.shape ps b rebuilds) (same honest) tables.places tables.placed.once;
+      bytes = λ honest. record {
+        filled = opened_filled bytes disk.bytes s.journal.shape b s.parts.blocks.holders (shape_rebuilt s.journal.shape ps b rebuilds) (same honest) tables.places tables.placed.once;
+        whole = λ lane. nothing_whole s.journal.shape disk.bytes s.parts.blocks.holders lane (taking_of (last_of begin s) lane) (of_last (λ t. taking_of t lane ≡ []) (quiet_taking begin.kept.shape.lanes lane));
+      };
     };
     tables = inl (of_last (λ t. IsSure (held_in begin) (takings_in begin) s b b t) (record { sure = none; in_journal = sure; in_state = refl; tables = begin_runs tables; same = refl }));
-    playing = of_last (λ t. Plays (filled bytes b) disk.honest s t) (subst (λ n. IsPlaying (filled bytes b) disk.honest s.journal.shape.block s.parts.ropes s.lanes n begin) (sym unmade)
+    playing = of_last (λ t. Plays (filled bytes b) disk.honest s t) (subst (λ n. IsPlaying (filled bytes b) disk.honest s.journal.shape.block s.parts.ropes s.lanes n s.recordings begin) (sym unmade)
         (let in_shape = shape_rebuilt s.journal.shape ps b rebuilds in
-        playing_first (filled bytes b) (λ x. refl) disk.honest s.journal.shape.block s.journal.shape.lanes s.parts.ropes s.lanes begin
+        playing_first (filled bytes b) (λ x. refl) disk.honest s.journal.shape.block s.journal.shape.lanes s.parts.ropes s.lanes s.recordings begin
         (ap (λ (x : Shape). replicate x.lanes quiet_lane) in_shape) (ap (λ (x : Shape). x.lanes) in_shape) refl
-        empty.queues (empty.block ∙ ap (λ (x : Shape). x.block) (sym in_shape)) empty.resident));
+        empty.queues (empty.block ∙ ap (λ (x : Shape). x.block) (sym in_shape)) empty.resident (unrecorded begin (ap (λ (x : Shape). replicate x.lanes quiet_lane) in_shape))));
     size = size;
   }
 

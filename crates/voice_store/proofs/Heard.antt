@@ -43,7 +43,7 @@ use Rattle.voice_store.specs.declared.hearing.Sound.TheVariants as sounds
 use Rattle.voice_store.specs.Stood.{last_of, tapes_of, IsSure, IsUnsure, Stood}
 use Rattle.voice_model.specs.Changes.{is_changing}
 use Rattle.voice_store.specs.Facts.{Stays, entry_of, stretches_of, most_reads}
-use Rattle.voice_store.specs.DeviceCalls.{landing_calls, most_calls}
+use Rattle.voice_store.specs.DeviceCalls.{landing_calls, other_calls, most_calls}
 use Rattle.voice_store.proofs.Counted.{most_other}
 use Rattle.voice_store.specs.Hearing.{IsHeard, call_for, sounding}
 use Rattle.voice_store.proofs.Refused.{wrong, kept_again, stood_shows, may_answer, is_reply, stays_home, answered_so}
@@ -287,6 +287,10 @@ reads_of : (s : State) (sound : Sound) (id : ℕ) → stretches_of s id ≡ most
 reads_of s sounds.Talk id = refl
 reads_of s sounds.Peaks id = refl
 
+reads_as : (s : State) (tapes : List (List ℕ)) (sound : Sound) (id : ℕ) → most_reads s (call_for sound id) ≡ other_calls s tapes (call_for sound id)
+reads_as s tapes sounds.Talk id = refl
+reads_as s tapes sounds.Peaks id = refl
+
 changes_none : (sound : Sound) (id : ℕ) → is_changing (call_for sound id) ≡ false
 changes_none sounds.Talk id = refl
 changes_none sounds.Peaks id = refl
@@ -299,7 +303,8 @@ module _ (old new : Told) (s t : State) (call : Call) (sound : Sound) (id : ℕ)
   heard_within tapes =
       let few = looked_reads.calls in
       let most = most_other s tapes call (ap is_changing asks ∙ changes_none sound id) in
-      omega (arith, few, most)
+      let here = ap (most_reads s) asks ∙ reads_as s tapes sound id ∙ ap (other_calls s tapes) (sym asks) in
+      omega (arith, few, here, most)
 
   pub few_on_error : {A E : Type 0} (r : Result A E) → OnErr r (new.calls ≤ old.calls + (landing_calls s + most_reads s call))
   few_on_error (Ok x) = tt

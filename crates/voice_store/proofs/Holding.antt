@@ -11,7 +11,7 @@ use Rattle.next_ropes.specs.Ready.{most_held}
 use Rattle.voice_store.specs.Stood.{IsHolding}
 
 -- the passages of one lane's jobs
-abbrev of_jobs : List Job → List (List Piece)
+abbrev pub of_jobs : List Job → List (List Piece)
 of_jobs jobs = map (λ (job : Job). pieces_of (map spot_of job.passage)) (filter (λ (job : Job). not job.stopped) jobs)
 
 few_jobs : (jobs : List Job) → length (of_jobs jobs) ≤ length jobs

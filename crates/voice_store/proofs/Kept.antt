@@ -45,6 +45,7 @@ use Rattle.crash_laws.proofs.Opened.{standing_gives}
 use Rattle.next_ropes.specs.Addresses.{KeepsAddresses}
 use Rattle.next_ropes.specs.Ready.{IsReady, AreLive, most_held}
 use Rattle.next_changes.specs.declared.NextChange.TheVariants as changes
+use Rattle.voice_store.specs.declared.going.Going.TheVariants as goings
 use Rattle.next_ropes.specs.declared.NextRope.{NextRope}
 use Rattle.voice_store.specs.declared.inside.Inside.{Inside}
 use Rattle.voice_store.specs.declared.ways.Way.{Way}
@@ -53,7 +54,7 @@ use Rattle.voice_store.specs.Stood.{last_of, tapes_of, Upright, IsSure, IsUnsure
 use Rattle.voice_store.specs.Ways.{IsWay}
 use Rattle.voice_store.specs.Trying.{Trying}
 use Rattle.voice_store.specs.Keeping.{MakesRope, HasWay}
-use Rattle.voice_store.proofs.Filled.{still_filled, stays_same}
+use Rattle.voice_store.proofs.Filled.{still_has, takes_same, stays_same}
 use Rattle.voice_store.proofs.Refused.{wrong, kept_again}
 use Rattle.voice_store.proofs.Holding.{few_held}
 use Rattle.voice_store.proofs.Played.{playing_by}
@@ -86,12 +87,12 @@ module _ (first : State) (t0 : ℕ) (disk : Told) (s : Inside) (stood : Stood fi
     seated = up.seated;
     acks = up.acks;
     held = λ h. subst (λ x. IsHeld first (tapes_of s) t0 s.journal disk stood.b x s.history.items) is_sure.same (up.held h);
-    bytes = λ h. still_filled stood.fill s.journal.shape disk.bytes disk.bytes s.parts.blocks.holders parts.blocks.holders keeps (stays_same s.journal.shape disk.bytes disk.bytes refl) (up.bytes h);
+    bytes = λ h. still_has stood.fill s.journal.shape disk.bytes disk.bytes s.parts.blocks.holders parts.blocks.holders (last_of first s) (last_of first s) (takes_same (last_of first s) (last_of first s) refl) keeps (stays_same s.journal.shape disk.bytes disk.bytes refl) (up.bytes h);
   }
 
   -- the lanes play on over other tables that show the same
   pub plays_by : (parts : Parts) → Shows stood.held parts stood.b.kept → Plays stood.fill disk.honest (record s { parts = parts }) (last_of first s)
-  plays_by parts shows = playing_by stood.held s.parts parts stood.b.kept is_sure.tables.kept shows stood.fill disk.honest s.journal.shape.block s.lanes s.made (last_of first s) stood.playing
+  plays_by parts shows = playing_by stood.held s.parts parts stood.b.kept is_sure.tables.kept shows stood.fill disk.honest s.journal.shape.block s.lanes s.made s.recordings (last_of first s) stood.playing
 
   -- other tables that show the same
   pub same_parts : (parts : Parts) → Runs stood.held [] stood.takings parts stood.b → KeepsAddresses s.parts.blocks.holders parts.blocks.holders → Stood first t0 disk (record s { parts = parts })
@@ -237,7 +238,7 @@ module _ (first : State) (t0 : ℕ) (disk : Told) (s : Inside) (call : Call) (pi
 
   pub trying : Foundations → (IsTrue disk.honest → IsHonest disk) → (caller : ℕ) (parts : Parts) → KeepsAddresses s.parts.blocks.holders parts.blocks.holders → (next : NextRope) → IsReady h.makes.stood.held h.makes.stood.takings parts b next (kinds.Edited b.next pieces)
       → (reply : Reply) → reply ≡ replies.Rope next.id (samples_in next.pieces)
-      → Trying first t0 disk (record s { parts = parts }) b (changes.Rope next) (kinds.Edited b.next pieces) made caller call reply
+      → Trying first t0 disk (record s { parts = parts }) b (goings.Change (changes.Rope next)) (kinds.Edited b.next pieces) made caller call reply
   trying laws honest caller parts keeps next ready reply is =
       let up = upright_by first t0 disk s h.makes.stood h.makes.sure parts keeps in
       record {
@@ -247,11 +248,18 @@ module _ (first : State) (t0 : ℕ) (disk : Told) (s : Inside) (call : Call) (pi
         in_journal = sure.in_journal;
         held = h.makes.stood.held;
         takings = h.makes.stood.takings;
+        more = h.makes.stood.takings;
         holding = h.makes.stood.holding;
-        ready = ready;
+        ready = (refl, ready);
+        holding_then = h.makes.stood.holding;
+        jobs = refl;
+        takes = takes_same now now refl;
+        recorded = h.makes.stood.playing.recorded;
+        will_have = λ told. tt;
         playing = plays_by first t0 disk s h.makes.stood h.makes.sure parts ready.runs.kept;
         addresses = [];
         change = the_change;
+        lanes = now.lanes;
         may = may_commit now (tapes_of s) caller call made making sure.in_state unrefused rope.effect;
         replies = reply_is next ready.number ready.pieces ∙ sym is;
         in_range = making.range;

@@ -16,6 +16,7 @@ use Rattle.voice_model.specs.declared.calls.Reply.{Reply}
 use Rattle.voice_model.specs.declared.calls.Entry.{Entry}
 use Rattle.voice_store.specs.declared.inside.Inside.{Inside}
 use Rattle.voice_store.specs.Stood.{last_of, tapes_of, Stood, Fills, Brings, IsSeated, AcksRise, IsHolding, IsSure, IsUnsure, Lands, Plays}
+use Rattle.voice_store.specs.Filled.{HaveBytes}
 use Rattle.voice_store.specs.Shown.{FaultsCover, Stands}
 use Rattle.voice_store.specs.Turns.{ShortTurns}
 use Rattle.voice_store.specs.Facts.{Adds, AddsLanding, entry_of, landing_at}
@@ -85,7 +86,7 @@ module _ (first : State) (t0 : ℕ) (disk : Told) (s : Inside) (history : Vec En
       seated = subst (λ (t : State). IsSeated s.journal t) (sym last) up.seated;
       acks = subst (λ l. AcksRise t0 l disk.calls) (sym is) up.acks;
       held = λ h. subst (λ l. IsHeld first (tapes_of s) t0 s.journal disk stood.b stood.after l) (sym is) (up.held h);
-      bytes = up.bytes;
+      bytes = λ h. subst (λ (t : State). HaveBytes stood.fill s.journal.shape disk.bytes s.parts.blocks.holders t) (sym last) (up.bytes h);
     };
     tables = by stood.tables;
     playing = subst (λ (t : State). Plays stood.fill disk.honest s t) (sym last) stood.playing;

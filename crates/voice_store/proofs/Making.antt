@@ -71,7 +71,7 @@ module _ (s : State) (tapes : List (List ℕ)) (caller : ℕ) (call : Call) (eff
   in_doubt : record (recording_closed s call) { doubt = asked_in s.form (effect_of s tapes call) } ≡ record s { doubt = Some (record { effect = effect; form = s.form }) }
   in_doubt = ap (λ (t : State). record t { doubt = asked_in s.form (effect_of s tapes call) }) making.closes ∙ ap (λ o. record s { doubt = asked_in s.form o }) is
 
-  pub may_commit : MayCommit s tapes caller call effect
+  pub may_commit : MayCommit s tapes caller call effect s.lanes
   may_commit = record {
     sure = none;
     answers = may_answer s tapes caller call making.built (nothing_lands s call none) None free;

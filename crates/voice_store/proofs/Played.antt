@@ -36,7 +36,9 @@ use Rattle.lane_calls.specs.Answers.{HaveForgotten}
 use Rattle.lane_calls.proofs.Counting.{uses_live}
 use Rattle.voice_store.specs.declared.inside.Inside.{Inside}
 use Rattle.voice_store.specs.Stood.{Plays}
-use Rattle.voice_store.specs.Playing.{bytes_by, PassagesBelow, NoneRecords, KeepsLanes, IsPlaying}
+use Rattle.record_job.specs.Recording.{Recording}
+use Rattle.recording_calls.specs.Shown.{kept_of, ShowsRecordings}
+use Rattle.voice_store.specs.Playing.{bytes_by, PassagesBelow, jobs_of, KeepsJobs, IsPlaying}
 use Rattle.voice_store.proofs.Taking.{later_fill, later_spots, later_other, as_before}
 
 -- ---- tables that show the same
@@ -50,13 +52,13 @@ module _ (held : List (List Piece)) (old new : Parts) (d : Durable Spot) (was : 
       ∙ sym (was.uses q)
 
   -- the lanes play on
-  pub playing_by : (fill : Spot → Tagged) (honest : Bool) (block : ℕ) (lanes : LanesState) (made : ℕ) (last : State) → IsPlaying fill honest block old.ropes lanes made last → IsPlaying fill honest block new.ropes lanes made last
-  playing_by fill honest block lanes made last p = record {
+  pub playing_by : (fill : Spot → Tagged) (honest : Bool) (block : ℕ) (lanes : LanesState) (made : ℕ) (recordings : List (Option Recording)) (last : State) → IsPlaying fill honest block old.ropes lanes made recordings last → IsPlaying fill honest block new.ropes lanes made recordings last
+  playing_by fill honest block lanes made recordings last p = record {
     shows = p.shows;
     used = λ f b at. subst (λ n. 0 < n) (sym (same_uses (pair_of b.file b.index))) (p.used f b at);
     bytes = p.bytes;
     below = p.below;
-    unrecorded = p.unrecorded;
+    recorded = p.recorded;
   }
 
 -- ---- states with the same lanes
@@ -71,8 +73,8 @@ changed_shape form d (Counted keys) = refl
 changed_shape form d (Swept ids) = refl
 changed_shape form d (Advanced moment) = refl
 
-pub keeps_itself : (s : State) → KeepsLanes s s
-keeps_itself s = record { lanes = refl; made = refl; shape = refl; next = omega arith }
+pub keeps_itself : (s : State) → KeepsJobs s s
+keeps_itself s = record { jobs = refl; made = refl; shape = refl; next = omega arith }
 
 -- the next number does not fall as a change that fits is done
 changed_next : (form : ℕ) (d : Durable Tagged) (effect : Effect Tagged) → IsFit form d effect → d.next ≤ (changed form d effect).next
@@ -84,15 +86,15 @@ changed_next form d (Counted keys) fit = omega arith
 changed_next form d (Swept ids) fit = omega arith
 changed_next form d (Advanced moment) fit = omega arith
 
-pub keeps_committed : (s : State) (form : ℕ) (effect : Effect Tagged) → IsFit form s.kept effect → KeepsLanes s (committed s form effect)
-keeps_committed s form effect fit = record { lanes = refl; made = refl; shape = changed_shape form s.kept effect; next = changed_next form s.kept effect fit }
+pub keeps_committed : (s : State) (form : ℕ) (effect : Effect Tagged) → IsFit form s.kept effect → KeepsJobs s (committed s form effect)
+keeps_committed s form effect fit = record { jobs = refl; made = refl; shape = changed_shape form s.kept effect; next = changed_next form s.kept effect fit }
 
-pub keeps_landed : (s : State) → IsState s → KeepsLanes s (landed s)
+pub keeps_landed : (s : State) → IsState s → KeepsJobs s (landed s)
 keeps_landed s valid = by s.doubt valid.doubt
   where
-    by : (o : Option Pending) → IsPending s o → KeepsLanes s (after_landing (record s { doubt = None }) o)
-    by None fits = record { lanes = refl; made = refl; shape = refl; next = omega arith }
-    by (Some pending) fits = record { lanes = refl; made = refl; shape = changed_shape pending.form s.kept pending.effect; next = changed_next pending.form s.kept pending.effect fits.1 }
+    by : (o : Option Pending) → IsPending s o → KeepsJobs s (after_landing (record s { doubt = None }) o)
+    by None fits = record { jobs = refl; made = refl; shape = refl; next = omega arith }
+    by (Some pending) fits = record { jobs = refl; made = refl; shape = changed_shape pending.form s.kept pending.effect; next = changed_next pending.form s.kept pending.effect fits.1 }
 
 below_more : (low high : ℕ) → low ≤ high → (lanes : List LaneState) → PassagesBelow low lanes → PassagesBelow high lanes
 below_more low high le =
@@ -100,46 +102,94 @@ below_more low high le =
     (λ lane. every-imply (λ (job : model.Job). Every (λ sample. sample.file < low) job.passage) (λ (job : model.Job). Every (λ sample. sample.file < high) job.passage)
     (λ job. every-imply (λ (sample : Tagged). sample.file < low) (λ (sample : Tagged). sample.file < high) (λ sample less. omega (arith, less, le)) job.passage) lane.jobs)
 
-below_kept : (old new : State) → KeepsLanes old new → PassagesBelow old.next old.lanes → PassagesBelow new.next new.lanes
-below_kept old new keeps below = subst (λ (lanes : List LaneState). PassagesBelow new.next lanes) (sym keeps.lanes) (below_more old.next new.next keeps.next old.lanes below)
+-- lanes with the same jobs
+pub same_many : (old new : List LaneState) → jobs_of new ≡ jobs_of old → length new ≡ length old
+same_many [] [] e = refl
+same_many [] (y ∷ ys) e = let no : y.jobs ∷ jobs_of ys ≡ [] = e in cc
+same_many (x ∷ xs) [] e = let no : [] ≡ x.jobs ∷ jobs_of xs = e in cc
+same_many (x ∷ xs) (y ∷ ys) e =
+    let both : y.jobs ∷ jobs_of ys ≡ x.jobs ∷ jobs_of xs = e in
+    let rest : jobs_of ys ≡ jobs_of xs = cc in
+    ap suc (same_many xs ys rest)
 
-shows_kept : (fill : Spot → Tagged) (lanes after : LanesState) (made : ℕ) (old new : State) → KeepsLanes old new → after.queues ≡ lanes.queues → after.frames.keeper ≡ lanes.frames.keeper → ShowsLanes fill lanes made old → ShowsLanes fill after made new
+pub same_jobs : (old new : List LaneState) (l : ℕ) → jobs_of new ≡ jobs_of old → (slice_index_or new l quiet_lane).jobs ≡ (slice_index_or old l quiet_lane).jobs
+same_jobs [] [] l e = refl
+same_jobs [] (y ∷ ys) l e = let no : y.jobs ∷ jobs_of ys ≡ [] = e in cc
+same_jobs (x ∷ xs) [] l e = let no : [] ≡ x.jobs ∷ jobs_of xs = e in cc
+same_jobs (x ∷ xs) (y ∷ ys) zero e = let both : y.jobs ∷ jobs_of ys ≡ x.jobs ∷ jobs_of xs = e in let one : y.jobs ≡ x.jobs = cc in one
+same_jobs (x ∷ xs) (y ∷ ys) (suc l) e =
+    let both : y.jobs ∷ jobs_of ys ≡ x.jobs ∷ jobs_of xs = e in
+    let rest : jobs_of ys ≡ jobs_of xs = cc in
+    same_jobs xs ys l rest
+
+same_below : (next : ℕ) (old new : List LaneState) → jobs_of new ≡ jobs_of old → PassagesBelow next old → PassagesBelow next new
+same_below next [] [] e h = tt
+same_below next [] (y ∷ ys) e h = let no : y.jobs ∷ jobs_of ys ≡ [] = e in cc
+same_below next (x ∷ xs) [] e h = tt
+same_below next (x ∷ xs) (y ∷ ys) e h =
+    let both : y.jobs ∷ jobs_of ys ≡ x.jobs ∷ jobs_of xs = e in
+    let one : x.jobs ≡ y.jobs = cc in
+    let rest : jobs_of ys ≡ jobs_of xs = cc in
+    (subst (λ (jobs : List model.Job). Every (λ job. Every (λ sample. sample.file < next) job.passage) jobs) one h.0, same_below next xs ys rest h.1)
+
+below_kept : (old new : State) → KeepsJobs old new → PassagesBelow old.next old.lanes → PassagesBelow new.next new.lanes
+below_kept old new keeps below = same_below new.next old.lanes new.lanes keeps.jobs (below_more old.next new.next keeps.next old.lanes below)
+
+shows_kept : (fill : Spot → Tagged) (lanes after : LanesState) (made : ℕ) (old new : State) → KeepsJobs old new → after.queues ≡ lanes.queues → after.frames.keeper ≡ lanes.frames.keeper → ShowsLanes fill lanes made old → ShowsLanes fill after made new
 shows_kept fill lanes after made old new keeps queues keeper h = record {
   spots = h.spots;
-  many = ap (λ (ls : List LaneState). length ls) keeps.lanes ∙ h.many ∙ ap (λ (qs : List (List Job)). length qs) (sym queues);
+  many = same_many old.lanes new.lanes keeps.jobs ∙ h.many ∙ ap (λ (qs : List (List Job)). length qs) (sym queues);
   shape = ap (λ (x : Shape). x.lanes) keeps.shape ∙ h.shape ∙ ap (λ (qs : List (List Job)). length qs) (sym queues);
   block = ap (λ (k : KeeperState). block_of k) keeper ∙ h.block ∙ ap (λ (x : Shape). x.block) (sym keeps.shape);
   jobs = λ l low.
-      ap (λ (ls : List LaneState). (slice_index_or ls l quiet_lane).jobs) keeps.lanes
-      ∙ h.jobs l (subst (λ (ls : List LaneState). l < length ls) keeps.lanes low)
+      same_jobs old.lanes new.lanes l keeps.jobs
+      ∙ h.jobs l (subst (λ n. l < n) (same_many old.lanes new.lanes keeps.jobs) low)
       ∙ ap (λ (qs : List (List Job)). map (shown_job fill) (lane_of qs l)) (sym queues);
   number = keeps.made ∙ h.number;
 }
 
+-- open recordings are those of each state with the same ones
+pub recorded_as : (recordings : List (Option Recording)) (old new : State) → new.shape.block ≡ old.shape.block → length new.lanes ≡ length old.lanes → ((l : ℕ) → (lane_at new l).taking ≡ (lane_at old l).taking)
+    → ShowsRecordings recordings old → ShowsRecordings recordings new
+recorded_as recordings old new block many takings h = record {
+  many = h.many ∙ sym many;
+  each = λ l low. h.each l (subst (λ n. l < n) many low) ∙ ap (λ n. kept_of n l (lane_at old l).taking) (sym block) ∙ ap (λ (o : Option (List ℕ)). kept_of new.shape.block l o) (sym (takings l));
+}
+
+-- also where all lanes are the same
+pub recorded_by_lanes : (recordings : List (Option Recording)) (old new : State) → new.shape ≡ old.shape → new.lanes ≡ old.lanes → ShowsRecordings recordings old → ShowsRecordings recordings new
+recorded_by_lanes recordings old new shape lanes h =
+    recorded_as recordings old new (ap (λ (x : Shape). x.block) shape) (ap (λ (ls : List LaneState). length ls) lanes) (λ l. ap (λ (ls : List LaneState). (slice_index_or ls l quiet_lane).taking) lanes) h
+
+-- and where the program's are the same
+pub recorded_still : (s s' : Inside) (last : State) → s'.recordings ≡ s.recordings → ShowsRecordings s.recordings last → ShowsRecordings s'.recordings last
+recorded_still s s' last same h = subst (λ (r : List (Option Recording)). ShowsRecordings r last) (sym same) h
+
 -- the lanes play on in such a state
-pub playing_kept : (fill : Spot → Tagged) (honest : Bool) (block : ℕ) (ropes : Table) (lanes : LanesState) (made : ℕ) (old new : State) → KeepsLanes old new → IsPlaying fill honest block ropes lanes made old → IsPlaying fill honest block ropes lanes made new
-playing_kept fill honest block ropes lanes made old new keeps p = record {
+pub playing_kept : (fill : Spot → Tagged) (honest : Bool) (block : ℕ) (ropes : Table) (lanes : LanesState) (made : ℕ) (before recordings : List (Option Recording)) (old new : State) → KeepsJobs old new → ShowsRecordings recordings new
+    → IsPlaying fill honest block ropes lanes made before old → IsPlaying fill honest block ropes lanes made recordings new
+playing_kept fill honest block ropes lanes made before recordings old new keeps recorded p = record {
   shows = shows_kept fill lanes lanes made old new keeps refl refl p.shows;
   used = p.used;
   bytes = p.bytes;
   below = below_kept old new keeps p.below;
-  unrecorded = subst (λ (lanes : List LaneState). NoneRecords lanes) (sym keeps.lanes) p.unrecorded;
+  recorded = recorded;
 }
 
 -- and once their frames forgot the blocks that other tables don't use
-pub playing_forgot : (fill : Spot → Tagged) (honest : Bool) (block : ℕ) (before ropes : Table) (lanes after : LanesState) (made : ℕ) (old new : State) → KeepsLanes old new → HaveForgotten ropes lanes after
-    → ((bytes : ℕ → ℕ → List ℕ) → HoldsBytes bytes lanes.frames → HoldsBytes bytes after.frames) → IsPlaying fill honest block before lanes made old → IsPlaying fill honest block ropes after made new
-playing_forgot fill honest block before ropes lanes after made old new keeps forgot bytes p = record {
+pub playing_forgot : (fill : Spot → Tagged) (honest : Bool) (block : ℕ) (before ropes : Table) (lanes after : LanesState) (made : ℕ) (had recordings : List (Option Recording)) (old new : State) → KeepsJobs old new → ShowsRecordings recordings new → HaveForgotten ropes lanes after
+    → ((bytes : ℕ → ℕ → List ℕ) → HoldsBytes bytes lanes.frames → HoldsBytes bytes after.frames) → IsPlaying fill honest block before lanes made had old → IsPlaying fill honest block ropes after made recordings new
+playing_forgot fill honest block before ropes lanes after made had recordings old new keeps recorded forgot bytes p = record {
   shows = shows_kept fill lanes after made old new keeps forgot.queues forgot.forgets.keeper p.shows;
   used = forgot.used;
   bytes = λ h. bytes (bytes_by fill block) (p.bytes h);
   below = below_kept old new keeps p.below;
-  unrecorded = subst (λ (lanes : List LaneState). NoneRecords lanes) (sym keeps.lanes) p.unrecorded;
+  recorded = recorded;
 }
 
 -- on a disk as honest
-pub playing_as_honest : (fill : Spot → Tagged) (honest other : Bool) (block : ℕ) (ropes : Table) (lanes : LanesState) (made : ℕ) (last : State) → other ≡ honest → IsPlaying fill honest block ropes lanes made last → IsPlaying fill other block ropes lanes made last
-playing_as_honest fill honest other block ropes lanes made last same p = subst (λ (h : Bool). IsPlaying fill h block ropes lanes made last) (sym same) p
+pub playing_as_honest : (fill : Spot → Tagged) (honest other : Bool) (block : ℕ) (ropes : Table) (lanes : LanesState) (made : ℕ) (recordings : List (Option Recording)) (last : State) → other ≡ honest → IsPlaying fill honest block ropes lanes made recordings last → IsPlaying fill other block ropes lanes made recordings last
+playing_as_honest fill honest other block ropes lanes made recordings last same p = subst (λ (h : Bool). IsPlaying fill h block ropes lanes made recordings last) (sym same) p
 
 -- ---- the bytes of a recording
 
@@ -179,9 +229,9 @@ module _ (fill : Spot → Tagged) (same : (x : Spot) → spot_of (fill x) ≡ x)
       ∙ ap (λ (l : List model.Job). shown_job later job ∷ l) (jobs_stay jobs h.1)
 
   -- the lanes play on as a recording of the next number is filled in
-  pub playing_later : (honest : Bool) (block : ℕ) (held pledged : List (List Piece)) (takings : List ℕ) (parts : Parts) (b : Rebuilt) (lanes : LanesState) (made : ℕ) (last : State) → Runs held pledged takings parts b → b.next ≡ id → last.next ≡ id
-      → IsPlaying fill honest block parts.ropes lanes made last → IsPlaying later honest block parts.ropes lanes made last
-  playing_later honest block held pledged takings parts b lanes made last runs number next p = record {
+  pub playing_later : (honest : Bool) (block : ℕ) (held pledged : List (List Piece)) (takings : List ℕ) (parts : Parts) (b : Rebuilt) (lanes : LanesState) (made : ℕ) (recordings : List (Option Recording)) (last : State) → Runs held pledged takings parts b → b.next ≡ id → last.next ≡ id
+      → IsPlaying fill honest block parts.ropes lanes made recordings last → IsPlaying later honest block parts.ropes lanes made recordings last
+  playing_later honest block held pledged takings parts b lanes made recordings last runs number next p = record {
     shows = record {
       spots = later_spots fill same id bytes;
       many = p.shows.many;
@@ -200,7 +250,7 @@ module _ (fill : Spot → Tagged) (same : (x : Spot) → spot_of (fill x) ≡ x)
         let known = used_below held pledged takings parts _ runs (pair_of b.file b.index) (p.used f b at) in
         p.bytes h f b at ∙ sym (bytes_stay b.file (λ e. absurd (omega (arith, known, number, e))) (b.index * block) block);
     below = p.below;
-    unrecorded = p.unrecorded;
+    recorded = p.recorded;
   }
 
 -- ---- a disk that was opened
@@ -228,10 +278,6 @@ quiet_below : (next n : ℕ) → PassagesBelow next (replicate n quiet_lane)
 quiet_below next zero = tt
 quiet_below next (suc n) = (tt, quiet_below next n)
 
-quiet_unrecorded : (n : ℕ) → NoneRecords (replicate n quiet_lane)
-quiet_unrecorded zero = tt
-quiet_unrecorded (suc n) = (refl, quiet_unrecorded n)
-
 -- lanes of a disk of this shape that have no job, and frames that hold no block
 pub record IsEmptyOf (shape : Shape) (lanes : LanesState) : Type 0 where
   pub queues : lanes.queues ≡ replicate shape.lanes empty_queue
@@ -242,10 +288,10 @@ pub empty_at : (shape there : Shape) (lanes : LanesState) → there ≡ shape �
 empty_at shape there lanes same queues block resident = subst (λ (x : Shape). IsEmptyOf x lanes) (sym same) (record { queues = queues; block = block; resident = resident })
 
 -- lanes without a job and with empty frames play in a state that was just opened
-pub playing_first : (fill : Spot → Tagged) (spots : (x : Spot) → spot_of (fill x) ≡ x) (honest : Bool) (block n : ℕ) (ropes : Table) (lanes : LanesState) (begin : State)
+pub playing_first : (fill : Spot → Tagged) (spots : (x : Spot) → spot_of (fill x) ≡ x) (honest : Bool) (block n : ℕ) (ropes : Table) (lanes : LanesState) (recordings : List (Option Recording)) (begin : State)
     → begin.lanes ≡ replicate n quiet_lane → begin.shape.lanes ≡ n → begin.made ≡ 0 → lanes.queues ≡ replicate n empty_queue → block_of lanes.frames.keeper ≡ begin.shape.block → lanes.frames.resident ≡ replicate (4 * n) None
-    → IsPlaying fill honest block ropes lanes 0 begin
-playing_first fill spots honest block n ropes lanes begin quiet many none queues size empty = record {
+    → ShowsRecordings recordings begin → IsPlaying fill honest block ropes lanes 0 recordings begin
+playing_first fill spots honest block n ropes lanes recordings begin quiet many none queues size empty recorded = record {
   shows = record {
     spots = spots;
     many = ap (λ (ls : List LaneState). length ls) quiet ∙ length-replicate n quiet_lane ∙ sym (length-replicate n empty_queue) ∙ ap (λ (qs : List (List Job)). length qs) (sym queues);
@@ -259,7 +305,7 @@ playing_first fill spots honest block n ropes lanes begin quiet many none queues
   used = λ f b at. absurd (no_block (4 * n) f b (ap (λ (l : List (Option Block)). resident_at l f) (sym empty) ∙ at));
   bytes = λ h f b at. absurd (no_block (4 * n) f b (ap (λ (l : List (Option Block)). resident_at l f) (sym empty) ∙ at));
   below = subst (λ (ls : List LaneState). PassagesBelow begin.next ls) (sym quiet) (quiet_below begin.next n);
-  unrecorded = subst (λ (ls : List LaneState). NoneRecords ls) (sym quiet) (quiet_unrecorded n);
+  recorded = recorded;
 }
 
 -- ---- a store after a step
@@ -275,24 +321,24 @@ pub record Unmoved (s s' : Inside) : Type 0 where
   pub lanes : s'.lanes ≡ s.lanes
   pub made : s'.made ≡ s.made
 
-module _ (fill : Spot → Tagged) (honest other : Bool) (s s' : Inside) (last then : State) (alike : other ≡ honest) (shape : s'.journal.shape ≡ s.journal.shape) (keeps : KeepsLanes last then) (p : Plays fill honest s last) where
+module _ (fill : Spot → Tagged) (honest other : Bool) (s s' : Inside) (last then : State) (alike : other ≡ honest) (shape : s'.journal.shape ≡ s.journal.shape) (keeps : KeepsJobs last then) (recorded : ShowsRecordings s'.recordings then) (p : Plays fill honest s last) where
   abbrev block : ℕ
   block = s.journal.shape.block
 
-  at_shape : (lanes : LanesState) (made : ℕ) (ropes : Table) → IsPlaying fill honest block ropes lanes made then → IsPlaying fill other s'.journal.shape.block ropes lanes made then
+  at_shape : (lanes : LanesState) (made : ℕ) (ropes : Table) → IsPlaying fill honest block ropes lanes made s'.recordings then → IsPlaying fill other s'.journal.shape.block ropes lanes made s'.recordings then
   at_shape lanes made ropes q =
-      subst (λ (x : Shape). IsPlaying fill other x.block ropes lanes made then) (sym shape) (subst (λ (h : Bool). IsPlaying fill h block ropes lanes made then) (sym alike) q)
+      subst (λ (x : Shape). IsPlaying fill other x.block ropes lanes made s'.recordings then) (sym shape) (subst (λ (h : Bool). IsPlaying fill h block ropes lanes made s'.recordings then) (sym alike) q)
 
   pub plays_forgot : Forgot s s' → Plays fill other s' then
   plays_forgot f =
       at_shape s'.lanes s'.made s'.parts.ropes
-      (subst (λ n. IsPlaying fill honest block s'.parts.ropes s'.lanes n then) (sym f.made)
-      (playing_forgot fill honest block s.parts.ropes s'.parts.ropes s.lanes s'.lanes s.made last then keeps f.forgot f.bytes p))
+      (subst (λ n. IsPlaying fill honest block s'.parts.ropes s'.lanes n s'.recordings then) (sym f.made)
+      (playing_forgot fill honest block s.parts.ropes s'.parts.ropes s.lanes s'.lanes s.made s.recordings s'.recordings last then keeps recorded f.forgot f.bytes p))
 
   pub plays_unmoved : Unmoved s s' → (held : List (List Piece)) (d : Durable Spot) → Shows held s.parts d → Shows held s'.parts d → Plays fill other s' then
   plays_unmoved u held d was is =
       at_shape s'.lanes s'.made s'.parts.ropes
-      (subst (λ (l : LanesState). IsPlaying fill honest block s'.parts.ropes l s'.made then) (sym u.lanes)
-      (subst (λ n. IsPlaying fill honest block s'.parts.ropes s.lanes n then) (sym u.made)
-      (playing_kept fill honest block s'.parts.ropes s.lanes s.made last then keeps
-      (playing_by held s.parts s'.parts d was is fill honest block s.lanes s.made last p))))
+      (subst (λ (l : LanesState). IsPlaying fill honest block s'.parts.ropes l s'.made s'.recordings then) (sym u.lanes)
+      (subst (λ n. IsPlaying fill honest block s'.parts.ropes s.lanes n s'.recordings then) (sym u.made)
+      (playing_kept fill honest block s'.parts.ropes s.lanes s.made s.recordings s'.recordings last then keeps recorded
+      (playing_by held s.parts s'.parts d was is fill honest block s.lanes s.made s.recordings last p))))

@@ -1,5 +1,5 @@
 -- A store with one entry more, and one whose disk went on.
-use Rattle.std.proofs.Common.{◌≡◌, ◌⊎◌, ℕ, ◌≤◌, Bool, List, [], ◌∷◌, ◌++◌, IsTrue, sym, ◌∙◌, ap, subst, arith}
+use Rattle.std.proofs.Common.{◌≡◌, ◌⊎◌, ℕ, ◌≤◌, Bool, List, [], ◌∷◌, ◌++◌, IsTrue, refl, sym, ◌∙◌, ap, subst, arith}
 use Rattle.voice_units.specs.declared.pieces.Piece.{Piece}
 use Rattle.voice_outside.specs.Disk.{Told}
 use Rattle.voice_units.specs.Spots.{Spot}
@@ -14,8 +14,8 @@ use Rattle.voice_model.specs.declared.calls.Entry.{Entry}
 use Rattle.crash_laws.specs.Standing.{IsHeld}
 use Rattle.voice_store.specs.declared.inside.Inside.{Inside}
 use Rattle.voice_store.specs.Stood.{tapes_of, last_of, Fills, IsSeated, AcksRise, IsHolding, Upright, IsSure, IsUnsure, Plays, Stood}
-use Rattle.voice_store.specs.Filled.{IsFilled}
-use Rattle.voice_store.proofs.Filled.{StaysBehind, still_filled}
+use Rattle.voice_store.specs.Filled.{HaveBytes}
+use Rattle.voice_store.proofs.Filled.{StaysBehind, still_has, takes_same}
 use Rattle.voice_store.proofs.Entries.{after_one, legal_one, acks_one, acks_later}
 use Rattle.voice_store.proofs.Played.{playing_as_honest}
 
@@ -45,7 +45,7 @@ module _ (first : State) (t0 : ℕ) (old new : Told) (s s' : Inside) (e : Entry)
   pub stood_pushed : (fill : Spot → Tagged) (b b' after' after'' : Rebuilt) (held : List (List Piece)) (takings : List ℕ) → Upright first t0 old s fill b after' → old.calls ≤ new.calls → new.honest ≡ old.honest → e.ack ≡ new.calls
       → IsAnswerOn new.honest last (tapes_of s) e → IsState next → IsHolding held takings s'.journal.shape.block next.lanes → Fills fill b' next → IsSeated s'.journal next
       → (IsTrue new.honest → IsHeld first (tapes_of s) t0 s'.journal new b' after'' (s.history.items ++ e ∷ []))
-      → (IsTrue new.honest → IsFilled fill s'.journal.shape new.bytes s'.parts.blocks.holders)
+      → (IsTrue new.honest → HaveBytes fill s'.journal.shape new.bytes s'.parts.blocks.holders next)
       → IsSure held takings s' b' after'' next ⊎ IsUnsure fill held takings s' b' after'' next → Plays fill new.honest s' next → extent s'.journal.shape ≤ new.size
       → Stood first t0 new s'
   stood_pushed fill b b' after' after'' held takings up later alike now answers valid holding fills seated stands filled tables playing size = record {
@@ -62,7 +62,7 @@ module _ (first : State) (t0 : ℕ) (old new : Told) (s s' : Inside) (e : Entry)
       seated = subst (λ (t : State). IsSeated s'.journal t) (sym last_next) seated;
       acks = here (λ ts l. AcksRise t0 l new.calls) (acks_one t0 s.history.items e new.calls (acks_later t0 s.history.items old.calls new.calls up.acks later) now);
       held = λ honest. here (λ ts l. IsHeld first ts t0 s'.journal new b' after'' l) (stands honest);
-      bytes = filled;
+      bytes = λ honest. subst (λ (t : State). HaveBytes fill s'.journal.shape new.bytes s'.parts.blocks.holders t) (sym last_next) (filled honest);
     };
     tables = subst (λ (t : State). IsSure held takings s' b' after'' t ⊎ IsUnsure fill held takings s' b' after'' t) (sym last_next) tables;
     playing = subst (λ (t : State). Plays fill new.honest s' t) (sym last_next) playing;
@@ -86,9 +86,9 @@ stood_went_on first t0 old new s stood later size alike held behind = record {
     seated = stood.upright.seated;
     acks = acks_later t0 s.history.items old.calls new.calls stood.upright.acks later;
     held = held;
-    bytes = λ is. let was = subst (λ (h : Bool). IsTrue h) alike is in still_filled stood.fill s.journal.shape old.bytes new.bytes s.parts.blocks.holders s.parts.blocks.holders (λ a holder had. had) (behind was) (stood.upright.bytes was);
+    bytes = λ is. let was = subst (λ (h : Bool). IsTrue h) alike is in still_has stood.fill s.journal.shape old.bytes new.bytes s.parts.blocks.holders s.parts.blocks.holders (last_of first s) (last_of first s) (takes_same (last_of first s) (last_of first s) refl) (λ a holder had. had) (behind was) (stood.upright.bytes was);
   };
   tables = stood.tables;
-  playing = playing_as_honest stood.fill old.honest new.honest s.journal.shape.block s.parts.ropes s.lanes s.made (last_of first s) alike stood.playing;
+  playing = playing_as_honest stood.fill old.honest new.honest s.journal.shape.block s.parts.ropes s.lanes s.made s.recordings (last_of first s) alike stood.playing;
   size = let is = stood.size in omega (arith, is, size);
 }

@@ -1,11 +1,14 @@
 -- A call of lanes that nothing refuses: a Play and a Stop in the store.
 use Rattle.std.proofs.Common.{◌≡◌, inl, inr, ℕ, zero, suc, ◌+◌, ◌<◌, ◌≤◌, ◌^◌, false, not, ◌||◌, List, [], ◌∷◌, ◌++◌, map, length, Option, None, IsTrue, refl, sym, ◌∙◌, ap, subst, arith}
-use Rattle.std.specs.Prelude.{is_none, slice_set}
+use Rattle.std.specs.Prelude.{is_none, slice_set, slice_index_or, unwrap_or}
 use Rattle.voice_units.specs.declared.pieces.Piece.{Piece}
 use Rattle.voice_units.specs.Blocks.{BlockPair}
 use Rattle.voice_outside.specs.Disk.{Told}
 use Rattle.voice_model.specs.Samples.{Tagged}
-use Rattle.voice_model.specs.State.{State, LaneState, Job, Effect, quiet_lane, lane_at, with_lane}
+use Rattle.voice_units.specs.declared.shapes.Shape.{Shape}
+use Rattle.voice_units.specs.Spots.{slice}
+use Rattle.voice_model.specs.State.{State, LaneState, Job, Effect, quiet_lane, lane_at, with_lane, samples_of}
+use Rattle.voice_model.specs.Room.{taking_blocks}
 use Rattle.voice_model.specs.Changes.{effect_of, is_changing}
 use Rattle.voice_model.specs.Step.{on_lanes, with_jobs, with_change, stopped_job, state_after, nothing_to_land, IsReply}
 use Rattle.voice_model.specs.Valid.{Every, InRange, IsState}
@@ -22,7 +25,9 @@ use Rattle.rope_table.specs.declared.ropes.Rope.{Rope}
 use Rattle.rope_table.specs.Table.{uses_at}
 use Rattle.interest_table.specs.Table as rows
 use Rattle.recovery.specs.declared.parts.Parts.{Parts}
-use Rattle.running_tables.specs.Running.{Runs}
+use Rattle.running_tables.specs.Running.{Runs, takings_of}
+use Rattle.record_job.specs.Recording.{Recording}
+use Rattle.recording_calls.specs.Shown.{ShowsRecordings}
 use Rattle.playing.specs.Frames.{FramesState, HoldsBytes}
 use Rattle.playing.specs.Held.{held_by}
 use Rattle.playing.specs.Lanes.{LanesState}
@@ -37,17 +42,18 @@ use Rattle.crash_laws.specs.Laws.{EntriesCount}
 use Rattle.built_calls.specs.Built.{is_built}
 use Rattle.voice_store.specs.declared.inside.Inside.{Inside}
 use Rattle.voice_store.specs.Facts.{entry_of}
-use Rattle.voice_store.specs.Playing.{bytes_by, PassagesBelow, NoneRecords}
+use Rattle.voice_store.specs.Playing.{bytes_by, PassagesBelow, KeepsTakings}
 use Rattle.voice_store.specs.Stood.{tapes_of, last_of, Stood}
 use Rattle.voice_store.proofs.Again.{of_slice}
 use Rattle.voice_store.proofs.Filled.{same_addresses}
 use Rattle.voice_store.proofs.Refused.{may_answer, after_answered}
+use Rattle.voice_store.proofs.Played.{recorded_as, recorded_still}
 use Rattle.voice_store.proofs.Taking.{below_next}
 use Rattle.voice_store.proofs.Turned.{Turns, stood_stands, stood_turned}
 
 -- ---- lanes with other jobs
 
-every_set : {A : Type 0} (P : A → Type 0) (xs : List A) (n : ℕ) (x : A) → Every P xs → P x → Every P (slice_set xs n x)
+pub every_set : {A : Type 0} (P : A → Type 0) (xs : List A) (n : ℕ) (x : A) → Every P xs → P x → Every P (slice_set xs n x)
 every_set P [] n x h k = tt
 every_set P (y ∷ xs) zero x h k = (k, h.1)
 every_set P (y ∷ xs) (suc n) x h k = (h.0, every_set P xs n x h.1 k)
@@ -61,11 +67,52 @@ below_at next s lane below = every_at (λ (l : LaneState). JobsBelow next l.jobs
 pub below_set : (next : ℕ) (s : State) (lane : ℕ) (jobs : List Job) → PassagesBelow next s.lanes → JobsBelow next jobs → PassagesBelow next (with_lane s lane (with_jobs (lane_at s lane) jobs)).lanes
 below_set next s lane jobs below mine = every_set (λ (l : LaneState). JobsBelow next l.jobs) s.lanes lane (with_jobs (lane_at s lane) jobs) below mine
 
-pub unrecorded_at : (s : State) (lane : ℕ) → NoneRecords s.lanes → (lane_at s lane).taking ≡ None
-unrecorded_at s lane none = every_at (λ (l : LaneState). l.taking ≡ None) s.lanes lane quiet_lane refl none
+-- what is told of each lane, where one is replaced of which it tells the same
+pub told_set : {A : Type 0} (told : LaneState → A) (lanes : List LaneState) (lane : ℕ) (value : LaneState) → told value ≡ told (slice_index_or lanes lane quiet_lane) → map told (slice_set lanes lane value) ≡ map told lanes
+told_set told [] lane value same = refl
+told_set told (l ∷ lanes) zero value same = ap (λ x. x ∷ map told lanes) same
+told_set told (l ∷ lanes) (suc lane) value same = ap (λ xs. told l ∷ xs) (told_set told lanes lane value same)
 
-pub unrecorded_set : (s : State) (lane : ℕ) (jobs : List Job) → NoneRecords s.lanes → NoneRecords (with_lane s lane (with_jobs (lane_at s lane) jobs)).lanes
-unrecorded_set s lane jobs none = every_set (λ (l : LaneState). l.taking ≡ None) s.lanes lane (with_jobs (lane_at s lane) jobs) none (unrecorded_at s lane none)
+pub told_at : {A : Type 0} (told : LaneState → A) (lanes : List LaneState) (lane : ℕ) (value : LaneState) → told value ≡ told (slice_index_or lanes lane quiet_lane) → (l : ℕ) → told (slice_index_or (slice_set lanes lane value) l quiet_lane) ≡ told (slice_index_or lanes l quiet_lane)
+told_at told [] lane value same l = refl
+told_at told (x ∷ lanes) zero value same zero = same
+told_at told (x ∷ lanes) zero value same (suc l) = refl
+told_at told (x ∷ lanes) (suc lane) value same zero = refl
+told_at told (x ∷ lanes) (suc lane) value same (suc l) = told_at told lanes lane value same l
+
+pub many_set : (lanes : List LaneState) (lane : ℕ) (value : LaneState) → length (slice_set lanes lane value) ≡ length lanes
+many_set [] lane value = refl
+many_set (l ∷ lanes) zero value = refl
+many_set (l ∷ lanes) (suc lane) value = ap suc (many_set lanes lane value)
+
+-- a state whose lane has other jobs has the same open recordings
+pub record SameTakings (s t : State) : Type 0 where
+  pub blocks : (block : ℕ) → takings_of block t.lanes ≡ takings_of block s.lanes
+  pub each : (l : ℕ) → (lane_at t l).taking ≡ (lane_at s l).taking
+  pub many : length t.lanes ≡ length s.lanes
+  pub shape : t.shape ≡ s.shape
+
+pub takings_same : (s : State) → SameTakings s s
+takings_same s = record { blocks = λ block. refl; each = λ l. refl; many = refl; shape = refl }
+
+-- a lane's jobs are others, and the number of jobs made may be
+pub takings_set : (s : State) (lane : ℕ) (jobs : List Job) (made : ℕ) → SameTakings s (record (with_lane s lane (with_jobs (lane_at s lane) jobs)) { made = made })
+takings_set s lane jobs made = record {
+  blocks = λ block. told_set (λ (l : LaneState). taking_blocks block l.taking) s.lanes lane (with_jobs (lane_at s lane) jobs) refl;
+  each = told_at (λ (l : LaneState). l.taking) s.lanes lane (with_jobs (lane_at s lane) jobs) refl;
+  many = many_set s.lanes lane (with_jobs (lane_at s lane) jobs);
+  shape = refl;
+}
+
+pub takings_then : (s t u : State) → SameTakings s t → SameTakings t u → SameTakings s u
+takings_then s t u one two = record { blocks = λ block. two.blocks block ∙ one.blocks block; each = λ l. two.each l ∙ one.each l; many = two.many ∙ one.many; shape = two.shape ∙ one.shape }
+
+-- so they keep them, and are shown by the same
+pub same_takes : (s t : State) → SameTakings s t → KeepsTakings s t
+same_takes s t same = λ l. inl (ap (λ (o : Option (List ℕ)). unwrap_or o []) (same.each l))
+
+pub same_recorded : (recordings : List (Option Recording)) (s t : State) → SameTakings s t → ShowsRecordings recordings s → ShowsRecordings recordings t
+same_recorded recordings s t same = recorded_as recordings s t (ap (λ (x : Shape). x.block) same.shape) same.many same.each
 
 stopped_below : (next : ℕ) (jobs : List Job) → JobsBelow next jobs → JobsBelow next (map stopped_job jobs)
 stopped_below next [] below = tt
@@ -116,7 +163,7 @@ module _ (first : State) (t0 : ℕ) (disk : Told) (s s' : Inside) (stood : Stood
       valid : IsState now
       valid = subst (λ (t : State). IsState t) leaves (state_kept last (tapes_of s) entry stood.upright.valid range replies_so)
 
-      stood_answered : Turns disk.honest stood.fill stood.b s s' last now → s'.history.items ≡ s.history.items ++ entry ∷ [] → (IsTrue disk.honest → IsHonest disk) → EntriesCount disk → Stood first t0 disk s'
+      pub stood_answered : Turns disk.honest stood.fill stood.b s s' last now → s'.history.items ≡ s.history.items ++ entry ∷ [] → (IsTrue disk.honest → IsHonest disk) → EntriesCount disk → Stood first t0 disk s'
       stood_answered turns items honest counts = stood_turned first t0 disk s stood s' entry now valid turns items refl (answer_on disk.honest last (tapes_of s) entry replies_so) leaves honest counts
 
 -- ---- a Play
@@ -128,6 +175,10 @@ module _ (first : State) (t0 : ℕ) (disk : Told) (s s' : Inside) (stood : Stood
   -- what was rebuilt is placed
   runs_on : Runs (held_by s.lanes.queues) (stood_stands first t0 disk s stood).0 stood.takings s.parts stood.b
   runs_on = (stood_stands first t0 disk s stood).1.runs
+
+  -- the lanes record what they did
+  queued_takings : (state : State) → SameTakings state (on_lanes state (tapes_of s) playing)
+  queued_takings state = takings_set state lane ((lane_at state lane).jobs ++ record { number = state.made + 1; passage = slice (samples_of state.ropes id) start len; heard = 0; window = 0; stopped = false } ∷ []) (state.made + 1)
 
   pub stood_queued : Answers first t0 disk s s' stood caller playing reply → s' ≡ record s { parts = s'.parts; lanes = s'.lanes; made = s'.made; history = s'.history } → s'.history.items ≡ s.history.items ++ entry_of caller playing reply disk.calls ∷ []
       → length s.parts.ropes.ropes + most_held + 3 ≤ 2 ^ 32 → s'.lanes.frames ≡ s.lanes.frames → s'.parts.blocks ≡ s.parts.blocks → s'.parts.interests ≡ s.parts.interests
@@ -156,7 +207,9 @@ module _ (first : State) (t0 : ℕ) (disk : Told) (s s' : Inside) (stood : Stood
         below = below_set state.next state lane _ stood.playing.below
             (every-append (λ (job : Job). Every (λ sample. sample.file < state.next) job.passage) (lane_at state lane).jobs _ (below_at state.next state lane stood.playing.below)
             (of_slice (λ (t : Tagged). t.file < state.next) state.ropes (below_next stood.fill stood.upright.fills.spots stood.b state.kept runs_on.placed stood.upright.fills.kept) id start len, tt));
-        unrecorded = unrecorded_set state lane _ stood.playing.unrecorded;
+        blocks = (queued_takings state).blocks;
+        takes = same_takes state (on_lanes state (tapes_of s) playing) (queued_takings state);
+        recorded = recorded_still s s' (on_lanes state (tapes_of s) playing) (ap (λ (x : Inside). x.recordings) rest) (same_recorded s.recordings state (on_lanes state (tapes_of s) playing) (queued_takings state) stood.playing.recorded);
       })
       items honest counts
 
@@ -183,6 +236,9 @@ module _ (first : State) (t0 : ℕ) (disk : Told) (s s' : Inside) (stood : Stood
         interests = ap (λ (v : rows.Table). v.spare) interests;
         bytes = λ h was. bytes (bytes_by stood.fill s.journal.shape.block) was;
         below = below_set state.next state lane _ stood.playing.below (stopped_below state.next (lane_at state lane).jobs (below_at state.next state lane stood.playing.below));
-        unrecorded = unrecorded_set state lane _ stood.playing.unrecorded;
+        blocks = (takings_set state lane (map stopped_job (lane_at state lane).jobs) state.made).blocks;
+        takes = same_takes state (on_lanes state (tapes_of s) (calls.Stop lane)) (takings_set state lane (map stopped_job (lane_at state lane).jobs) state.made);
+        recorded = recorded_still s s' (on_lanes state (tapes_of s) (calls.Stop lane)) (ap (λ (x : Inside). x.recordings) rest)
+            (same_recorded s.recordings state (on_lanes state (tapes_of s) (calls.Stop lane)) (takings_set state lane (map stopped_job (lane_at state lane).jobs) state.made) stood.playing.recorded);
       })
       items honest counts

@@ -1,44 +1,24 @@
 -- A recording that only the journal may refuse: what it takes there.
-use Rattle.std.proofs.Common.{◌≡◌, ℕ, zero, suc, ◌+◌, ◌*◌, ◌≤◌, ◌==◌, Bool, true, false, cond, List, [], ◌∷◌, length, Some, None, refl, sym, ◌∙◌, ap, arith}
+use Rattle.std.proofs.Common.{◌≡◌, ℕ, ◌+◌, ◌*◌, ◌==◌, false, cond, List, length, Some, None, ◌∙◌, ap}
 use Rattle.voice_units.specs.declared.pieces.Take.{Take}
-use Rattle.voice_units.specs.declared.shapes.Shape.{Shape}
-use Rattle.voice_units.specs.declared.pieces.Piece.{Piece}
-use Rattle.voice_units.specs.Spots.{spots_from, pieces_of, samples_in}
-use Rattle.voice_units.proofs.PiecesOfRopes.{length-spots_from}
-use Rattle.voice_units.proofs.Counts.{one_piece}
 use Rattle.voice_units.specs.Blocks.{blocks_for}
 use Rattle.voice_outside.specs.Disk.{Told}
-use Rattle.voice_model.specs.Samples.{Tagged, recording, pieces_in}
+use Rattle.voice_model.specs.Samples.{Tagged}
 use Rattle.voice_model.specs.State.{State, Effect}
-use Rattle.voice_model.specs.Changes.{frame_size, base_size, changed, address_size, rope_size}
+use Rattle.voice_model.specs.Changes.{frame_size, base_size, changed, address_size}
 use Rattle.voice_model.specs.Step.{refusal, is_journal_full, journal_full, when}
 use Rattle.voice_model.specs.Tapes.{taken}
 use Rattle.voice_model.specs.declared.calls.Call.TheVariants as calls
 use Rattle.voice_model.specs.declared.calls.Why.TheVariants as why
-use Rattle.voice_model.proofs.FitsOfCalls.{recorded_length, recorded_spots}
 use Rattle.edits.proofs.Refusals.{journal_last}
-use Rattle.edits.proofs.Seen.{places_length}
-use Rattle.fillings.specs.Laws.{new_rope, blocks_size}
-use Rattle.fillings.proofs.RecordedBlocks.{some_samples}
-use Rattle.fillings.proofs.Sizes.{recorded_size}
 use Rattle.voice_store.specs.declared.inside.Inside.{Inside}
 use Rattle.voice_store.specs.declared.ways.Way.{Way}
 use Rattle.voice_store.specs.declared.ways.Way.TheVariants as ways
 use Rattle.voice_store.specs.Stood.{last_of, tapes_of}
 use Rattle.voice_store.specs.Ways.{IsWay}
 use Rattle.voice_store.specs.Keeping.{MakesRecording, HasRoom, recorded_by}
-use Rattle.voice_store.proofs.Kept.{is_sure, same_form}
 use Rattle.voice_store.proofs.Recorded.{taken_many}
-use Rattle.voice_store.proofs.Taking.{below_next}
-
--- the samples of a recording are one piece, where there are any
-one_run : (file from n : ℕ) → length (pieces_of (spots_from file from n)) ≡ cond (n == 0) 0 1
-one_run file from zero = refl
-one_run file from (suc n) = by (pieces_of (spots_from file from (suc n))) (places_length (spots_from file from (suc n)) ∙ length-spots_from file from (suc n)) (one_piece file from (suc n)) ∙ sym (ap (λ b. cond b 0 1) (some_samples n))
-  where
-    by : (ps : List Piece) → samples_in ps ≡ suc n → length ps ≤ 1 → length ps ≡ 1
-    by [] some few = absurd (omega (arith, some))
-    by (p ∷ ps) some few = omega (arith, few)
+use Rattle.voice_store.proofs.Sized.{block_is, frame_sized, need_sized}
 
 module _ (first : State) (t0 : ℕ) (disk : Told) (s : Inside) (take : Take) (h : MakesRecording first t0 disk s take) where
   abbrev last : State
@@ -54,45 +34,13 @@ module _ (first : State) (t0 : ℕ) (disk : Told) (s : Inside) (take : Take) (h 
   many = taken_many (tapes_of s) take h.has
 
   pub block_same : last.kept.shape.block ≡ s.journal.shape.block
-  block_same = ap (λ (x : Shape). x.block) h.stood.upright.seated.shape
-
-  frame_of : (form : ℕ) → form ≡ last.form → 22 + address_size form * blocks_for s.journal.shape.block take.len ≡ frame_size last.form last.kept.shape.block effect
-  frame_of form is =
-      let blocks : blocks_for s.journal.shape.block take.len ≡ blocks_for last.kept.shape.block (length (recording last.next bytes)) =
-      ap (λ n. blocks_for n take.len) (sym block_same) ∙ ap (blocks_for last.kept.shape.block) (sym (recorded_length last.next 0 bytes ∙ many)) in
-      ap (λ f. 22 + address_size f * blocks_for s.journal.shape.block take.len) is
-      ∙ ap (λ n. 22 + address_size last.form * n) blocks
-      ∙ spread (address_size last.form * blocks_for last.kept.shape.block (length (recording last.next bytes)))
-    where
-      spread : (x : ℕ) → 22 + x ≡ 5 + (17 + x)
-      spread x = omega arith
+  block_same = block_is first t0 disk s h.stood h.sure bytes take.len many
 
   pub frame_is : 22 + address_size s.parts.form * blocks_for s.journal.shape.block take.len ≡ frame_size last.form last.kept.shape.block effect
-  frame_is = frame_of s.parts.form (same_form first t0 disk s h.stood h.sure)
-
-  pieces_are : length (pieces_in (recording last.next bytes)) ≡ cond (take.len == 0) 0 1
-  pieces_are =
-      ap (λ ss. length (pieces_of ss)) (recorded_spots last.next 0 bytes) ∙ ap (λ n. length (pieces_of (spots_from last.next 0 n))) many ∙ one_run last.next 0 take.len
-
-  grown : (form : ℕ) (none : Bool) (blocks : ℕ) → 24 + cond (form == 2) 1 0 + cond none 0 (34 + (4 + address_size form) * blocks) ≡ 24 + cond (form == 2) 1 0 + 16 * cond none 0 1 + cond none 0 (18 + (4 + address_size form) * blocks)
-  grown form true blocks = omega arith
-  grown form false blocks = omega arith
+  frame_is = frame_sized first t0 disk s h.stood h.sure bytes take.len many
 
   pub need_is : (now n : ℕ) → now ≡ base_size last.form last.kept → n ≡ 24 + cond (s.parts.form == 2) 1 0 + cond (take.len == 0) 0 (34 + (4 + address_size s.parts.form) * blocks_for s.journal.shape.block take.len) → now + n ≡ base_size last.form (changed last.form last.kept effect)
-  need_is now n base is =
-      let up = h.stood.upright in
-      let sure = is_sure first t0 disk s h.stood h.sure in
-      let size = recorded_size last.form last.kept last.next bytes (below_next h.stood.fill up.fills.spots h.stood.b last.kept sure.tables.placed up.fills.kept) in
-      let rope : rope_size last.form (new_rope last.kept last.next (recording last.next bytes)) ≡ 24 + cond (last.form == 2) 1 0 + 16 * cond (take.len == 0) 0 1 =
-      ap (λ m. 24 + cond (last.form == 2) 1 0 + 16 * m) pieces_are in
-      let blocks : blocks_size last.form last.kept.shape (length bytes) ≡ cond (take.len == 0) 0 (18 + (4 + address_size last.form) * blocks_for s.journal.shape.block take.len) =
-      ap (λ m. blocks_size last.form last.kept.shape m) many ∙ ap (λ m. cond (take.len == 0) 0 (18 + (4 + address_size last.form) * blocks_for m take.len)) block_same in
-      let more = is ∙ ap (λ f. 24 + cond (f == 2) 1 0 + cond (take.len == 0) 0 (34 + (4 + address_size f) * blocks_for s.journal.shape.block take.len)) (same_form first t0 disk s h.stood h.sure)
-      ∙ grown last.form (take.len == 0) (blocks_for s.journal.shape.block take.len) in
-      sums _ _ _ _ _ _ _ base more rope blocks ∙ sym size
-    where
-      sums : (base n old rope r blocks k : ℕ) → base ≡ old → n ≡ r + k → rope ≡ r → blocks ≡ k → base + n ≡ old + rope + blocks
-      sums base n old rope r blocks k e f g i = omega (arith, e, f, g, i)
+  need_is now n base is = need_sized first t0 disk s h.stood h.sure bytes take.len many now n base is
 
   -- the journal refuses it
   pub recording_full : (need left : ℕ) → IsWay last effect (ways.Full need left) → refusal last (tapes_of s) (calls.Record take) ≡ Some (why.JournalFull need left)

@@ -183,7 +183,7 @@ held_block first t0 disk s stood honest file index there =
       held = at.1;
       given = given.1;
       bytes = stood.playing.bytes honest at.0 (record { file = file; index = index }) at.1
-          ∙ sym (on_disk stood.fill s.journal.shape disk.bytes s.parts.blocks.holders (stood.upright.bytes honest) given.0 file index given.1);
+          ∙ sym (on_disk stood.fill s.journal.shape disk.bytes s.parts.blocks.holders (stood.upright.bytes honest).filled given.0 file index given.1);
     }
 
 -- and a live rope or a held passage has it

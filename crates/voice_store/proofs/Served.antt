@@ -9,7 +9,7 @@ use Rattle.voice_units.specs.Spots.{Spot, spots_of, slice, window}
 use Rattle.voice_units.specs.Blocks.{BlockPair}
 use Rattle.voice_outside.specs.Disk.{Told}
 use Rattle.voice_model.specs.Samples.{Tagged, spots_in_rope, spot_of}
-use Rattle.voice_model.specs.State.{State, LaneState, Job, quiet_lane, lane_at}
+use Rattle.voice_model.specs.State.{State, LaneState, Job, quiet_lane, lane_at, with_lane}
 use Rattle.voice_model.specs.Step.{Outcome, outcome_of, refusal, reply_of, reply_by, on_lanes, with_jobs, after_reply, windows_home, brought_back, heard_more, served, reply_of_feed, first_job, first_of, when, window_out, window_of, state_by, state_after, BringsItsWindow, MayReply, IsReply}
 use Rattle.voice_model.specs.Valid.{IsState, Every}
 use Rattle.voice_model.specs.Replay.{Rebuilt}
@@ -52,12 +52,13 @@ use Rattle.voice_store.specs.Shown.{FaultsCover}
 use Rattle.voice_store.proofs.Faults.{covers_answer}
 use Rattle.voice_store.specs.Feeding.{told, first_passage, passage_at, HasSamples}
 use Rattle.voice_store.specs.Residing.{HoldsWindow}
-use Rattle.voice_store.specs.Playing.{bytes_by, PassagesBelow, NoneRecords, MovesLanes}
+use Rattle.voice_store.specs.Playing.{bytes_by, PassagesBelow, MovesLanes}
 use Rattle.voice_store.specs.Stood.{tapes_of, last_of, IsSure, IsUnsure, Stood}
 use Rattle.voice_store.proofs.Refused.{spots_again, refused_plain, wrong}
 use Rattle.voice_store.proofs.Entries.{stood_noted}
 use Rattle.voice_store.proofs.Windowed.{on_disk, heard_of, window_told, window_filled, bytes_of_spots}
-use Rattle.voice_store.proofs.Queued.{JobsBelow, below_at, below_set, unrecorded_set, stood_unmoved}
+use Rattle.voice_store.proofs.Played.{recorded_still}
+use Rattle.voice_store.proofs.Queued.{JobsBelow, SameTakings, below_at, below_set, takings_same, takings_set, takings_then, same_takes, same_recorded, stood_unmoved}
 use Rattle.voice_store.proofs.Turned.{stood_stands, stood_turned}
 
 -- ---- the state after it
@@ -78,25 +79,25 @@ brought_below : (next : ℕ) (s : State) (lane : ℕ) (back : Option ℕ) → Pa
 brought_below next s lane None below = below
 brought_below next s lane (Some m) below = below_set next s lane (heard_more m (lane_at s lane).jobs) below (heard_below next m (lane_at s lane).jobs (below_at next s lane below))
 
-brought_unrecorded : (s : State) (lane : ℕ) (back : Option ℕ) → NoneRecords s.lanes → NoneRecords (brought_back s lane back).lanes
-brought_unrecorded s lane None none = none
-brought_unrecorded s lane (Some m) none = unrecorded_set s lane (heard_more m (lane_at s lane).jobs) none
+brought_takings : (s : State) (lane : ℕ) (back : Option ℕ) → SameTakings s (brought_back s lane back)
+brought_takings s lane None = takings_same s
+brought_takings s lane (Some m) = takings_set s lane (heard_more m (lane_at s lane).jobs) s.made
 
 -- what is left of a state that a Feed leaves
 pub record Leaves (s now : State) : Type 0 where
   pub moves : MovesLanes s now
   pub below : PassagesBelow s.next s.lanes → PassagesBelow now.next now.lanes
-  pub unrecorded : NoneRecords s.lanes → NoneRecords now.lanes
+  pub takings : SameTakings s now
 
 pub leaves_home : (s : State) (lane : ℕ) (back : Option ℕ) → Leaves s (windows_home s (calls.Feed lane back))
-leaves_home s lane None = record { moves = refl; below = λ h. h; unrecorded = λ h. h }
-leaves_home s lane (Some m) = record { moves = refl; below = brought_below s.next s lane (Some m); unrecorded = brought_unrecorded s lane (Some m) }
+leaves_home s lane None = record { moves = refl; below = λ h. h; takings = takings_same s }
+leaves_home s lane (Some m) = record { moves = refl; below = brought_below s.next s lane (Some m); takings = brought_takings s lane (Some m) }
 
 pub leaves_served : (s : State) (tapes : List (List ℕ)) (lane : ℕ) (back : Option ℕ) → Leaves s (on_lanes s tapes (calls.Feed lane back))
 leaves_served s tapes lane None = record {
   moves = refl;
   below = λ h. below_set s.next s lane (served s.shape.block (lane_at s lane).jobs) h (served_below s.next s.shape.block (lane_at s lane).jobs (below_at s.next s lane h));
-  unrecorded = unrecorded_set s lane (served s.shape.block (lane_at s lane).jobs);
+  takings = takings_set s lane (served s.shape.block (lane_at s lane).jobs) s.made;
 }
 leaves_served s tapes lane (Some m) =
     let home = brought_back s lane (Some m) in
@@ -104,7 +105,7 @@ leaves_served s tapes lane (Some m) =
       moves = refl;
       below = λ h. below_set s.next home lane (served s.shape.block (lane_at home lane).jobs) (brought_below s.next s lane (Some m) h)
           (served_below s.next s.shape.block (lane_at home lane).jobs (below_at s.next home lane (brought_below s.next s lane (Some m) h)));
-      unrecorded = λ h. unrecorded_set home lane (served s.shape.block (lane_at home lane).jobs) (brought_unrecorded s lane (Some m) h);
+      takings = takings_then s home (with_lane home lane (with_jobs (lane_at home lane) (served s.shape.block (lane_at home lane).jobs))) (brought_takings s lane (Some m)) (takings_set home lane (served s.shape.block (lane_at home lane).jobs) home.made);
     }
 
 -- ---- its reply
@@ -159,7 +160,9 @@ module _ (first : State) (t0 : ℕ) (disk : Told) (s s' : Inside) (stood : Stood
         interests = ap (λ (v : rows.Table). v.spare) feeds.interests;
         bytes = feeds.bytes;
         below = left.below stood.playing.below;
-        unrecorded = left.unrecorded stood.playing.unrecorded;
+        blocks = left.takings.blocks;
+        takes = same_takes last now left.takings;
+        recorded = recorded_still s s' now (ap (λ (x : Inside). x.recordings) feeds.rest) (same_recorded s.recordings last now left.takings stood.playing.recorded);
       })
       feeds.items refl (answer_on disk.honest last (tapes_of s) entry answers) leaves honest counts
 
@@ -214,7 +217,7 @@ module _ (first : State) (t0 : ℕ) (disk : Told) (s s' : Inside) (stood : Stood
     spare_pairs = steps.spare_pairs;
     uses = steps.uses;
     interests = steps.interests;
-    bytes = λ h was. holds h (bytes_by stood.fill s.journal.shape.block) (on_disk stood.fill s.journal.shape disk.bytes s.parts.blocks.holders (stood.upright.bytes h)) was;
+    bytes = λ h was. holds h (bytes_by stood.fill s.journal.shape.block) (on_disk stood.fill s.journal.shape disk.bytes s.parts.blocks.holders (stood.upright.bytes h).filled) was;
     items = items ∙ ap (λ (r : Reply). s.history.items ++ entry_of caller call r disk.calls ∷ []) (sym same);
   }
 
@@ -278,9 +281,9 @@ stood_refilled first t0 disk s lanes stood stays holds =
       playing = record {
         shows = now.shows;
         used = now.used;
-        bytes = λ h. holds h (bytes_by stood.fill s.journal.shape.block) (on_disk stood.fill s.journal.shape disk.bytes s.parts.blocks.holders (up.bytes h)) (stood.playing.bytes h);
+        bytes = λ h. holds h (bytes_by stood.fill s.journal.shape.block) (on_disk stood.fill s.journal.shape disk.bytes s.parts.blocks.holders (up.bytes h).filled) (stood.playing.bytes h);
         below = stood.playing.below;
-        unrecorded = stood.playing.unrecorded;
+        recorded = stood.playing.recorded;
       };
       size = stood.size;
     }

@@ -7,8 +7,9 @@ use Rattle.voice_units.specs.declared.shapes.Shape.{Shape}
 use Rattle.voice_journal.specs.Places.{JournalValue, closed_after, landed as landed_seat}
 use Rattle.voice_journal.specs.Readings.{extent, SameElsewhere}
 use Rattle.next_ropes.specs.Addresses.{KeepsAddresses}
-use Rattle.voice_store.specs.Filled.{IsFilled}
-use Rattle.voice_store.proofs.Filled.{still_filled, stays_elsewhere}
+use Rattle.recording_calls.specs.Shown.{ShowsRecordings}
+use Rattle.voice_store.specs.Filled.{HaveBytes}
+use Rattle.voice_store.proofs.Filled.{still_has, takes_same, stays_elsewhere}
 use Rattle.voice_journal.specs.declared.seats.Doubt.{Doubt}
 use Rattle.voice_units.specs.Spots.{Spot}
 use Rattle.voice_model.specs.Samples.{Tagged}
@@ -29,7 +30,7 @@ use Rattle.voice_store.specs.Stood.{tapes_of, last_of, in_form, IsSeated, IsSure
 use Rattle.voice_store.specs.Stood as stood
 use Rattle.voice_store.specs.Trying.{IsReadyIn}
 use Rattle.voice_store.specs.Facts.{landing_at}
-use Rattle.voice_store.proofs.Played.{Forgot, keeps_landed, plays_forgot}
+use Rattle.voice_store.proofs.Played.{Forgot, keeps_landed, recorded_by_lanes, plays_forgot}
 use Rattle.voice_store.proofs.Pushed.{stood_pushed, stood_went_on}
 
 landed_lanes : (s : State) (o : Option Pending) → (after_landing (record s { doubt = None }) o).lanes ≡ s.lanes
@@ -78,10 +79,10 @@ module _ (first : State) (t0 : ℕ) (old new : Told) (s s' : Inside) (was : Stoo
   honest h = subst (λ (b : Bool). IsTrue b) alike h
 
   pub stood_landed : s'.tapes ≡ s.tapes → s'.history.items ≡ s.history.items ++ landing_at new.calls ∷ [] → (IsTrue old.honest → SameElsewhere s.journal.shape old.bytes new.bytes) → KeepsAddresses s.parts.blocks.holders s'.parts.blocks.holders → s'.journal ≡ landed_journal s.journal unsure.doubt
-      → Forgot s s' → s'.doubt ≡ None → s'.parts.form ≡ unsure.doubted.form → Runs was.held [] was.takings (in_form was.b.form s'.parts) (acted was.b unsure.change)
+      → ShowsRecordings s'.recordings last → Forgot s s' → s'.doubt ≡ None → s'.parts.form ≡ unsure.doubted.form → Runs was.held [] was.takings (in_form was.b.form s'.parts) (acted was.b unsure.change)
       → (IsTrue old.honest → Lands s.journal s'.journal old new × LandsWithin s.journal old new)
       → Stood first t0 new s'
-  stood_landed tapes items elsewhere keeps journal forgot doubt form tables does =
+  stood_landed tapes items elsewhere keeps journal recorded forgot doubt form tables does =
       let lands = unsure.lands in
       let e = landing_at new.calls in
       let next_is : state_after last (tapes_of s) e ≡ landed last = refl in
@@ -97,10 +98,12 @@ module _ (first : State) (t0 : ℕ) (old new : Told) (s s' : Inside) (was : Stoo
       (subst (λ (j : JournalValue). stood.IsHolding was.held was.takings j.shape.block last.lanes) (sym journal) was.holding))
       lands.fills seated
       (λ h. let d = does (honest h) in carry.ok first (tapes_of s) t0 s.journal s'.journal was.b was.after s.history.items unsure.pending (moments (honest h)) (was.upright.held (honest h)) unsure.in_state d.0 d.1)
-      (λ h. subst (λ (j : JournalValue). IsFilled was.fill j.shape new.bytes s'.parts.blocks.holders) (sym journal)
-      (still_filled was.fill s.journal.shape old.bytes new.bytes s.parts.blocks.holders s'.parts.blocks.holders keeps (stays_elsewhere s.journal.shape old.bytes new.bytes (elsewhere (honest h))) (was.upright.bytes (honest h))))
+      (λ h. subst (λ (j : JournalValue). HaveBytes was.fill j.shape new.bytes s'.parts.blocks.holders (landed last)) (sym journal)
+      (still_has was.fill s.journal.shape old.bytes new.bytes s.parts.blocks.holders s'.parts.blocks.holders last (landed last) (takes_same last (landed last) (landed_lanes last last.doubt)) keeps (stays_elsewhere s.journal.shape old.bytes new.bytes (elsewhere (honest h))) (was.upright.bytes (honest h))))
       (inl (record { sure = doubt; in_journal = ap (λ (j : JournalValue). j.doubt) journal; in_state = none; tables = shows; same = refl }))
-      (plays_forgot was.fill old.honest new.honest s s' last (landed last) alike (ap (λ (j : JournalValue). j.shape) journal) (keeps_landed last was.upright.valid) was.playing forgot)
+      (let keeps_on = keeps_landed last was.upright.valid in
+      plays_forgot was.fill old.honest new.honest s s' last (landed last) alike (ap (λ (j : JournalValue). j.shape) journal) keeps_on
+      (recorded_by_lanes s'.recordings last (landed last) keeps_on.shape (landed_lanes last last.doubt) recorded) was.playing forgot)
       (let is = was.size in let shape : s'.journal.shape ≡ s.journal.shape = ap (λ (j : JournalValue). j.shape) journal in
       subst (λ (x : Shape). extent x ≤ new.size) (sym shape) (omega (arith, is, sizes)))
 

@@ -28,9 +28,11 @@ use Rattle.voice_model.specs.declared.changes.Change.TheVariants as kinds
 use Rattle.voice_model.proofs.BaseSize.{base_sized}
 use Rattle.journal_readings.specs.Readings.{Rebuild}
 use Rattle.journal_readings.proofs.Replays as replays
-use Rattle.next_changes.specs.declared.NextChange.{NextChange}
-use Rattle.next_changes.specs.Laws.{IsGiven}
-use Rattle.next_changes.proofs.Given.{given}
+use Rattle.next_changes.specs.Next.{IsNext}
+use Rattle.voice_blocks.specs.Holders.{Holders}
+use Rattle.voice_store.specs.declared.going.Going.{Going}
+use Rattle.voice_store.specs.Going.{counted_as, IsCounted, closed_in}
+use Rattle.voice_store.proofs.OnItsWay.{IsOnItsWay, on_its_way}
 use Rattle.recovery.specs.Shown.{Shows, plain_sample}
 use Rattle.checkpoint.specs.Blocks.{IsHeld as IsAt}
 use Rattle.running_tables.specs.Running.{Runs, GivesJust}
@@ -94,8 +96,8 @@ shown_read_back held takings parts x end to runs kept places form valid placed u
   used = used;
 }
 
-module _ (first : State) (t0 : ℕ) (old new : Told) (s s' : Inside) (b : Rebuilt) (next : NextChange) (c : Change) (effect : Effect Tagged) (caller : ℕ) (call : Call) (reply : Reply)
-    (tr : Trying first t0 old s b next c effect caller call reply) (later : old.calls ≤ new.calls) (sizes : new.size ≡ old.size)
+module _ (first : State) (t0 : ℕ) (old new : Told) (s s' : Inside) (b : Rebuilt) (going : Going) (c : Change) (effect : Effect Tagged) (caller : ℕ) (call : Call) (reply : Reply)
+    (tr : Trying first t0 old s b going c effect caller call reply) (later : old.calls ≤ new.calls) (sizes : new.size ≡ old.size)
     (alike : new.honest ≡ old.honest) (moments : IsTrue old.honest → IsLater old new)
     (base : Base) (is_base : IsBaseOf s.journal.shape (acted b c) base) (fits : FitsOther (last_of first s) effect) (room : framed_size base.payloads + 17 ≤ s.journal.shape.area) where
   abbrev last : State
@@ -107,11 +109,15 @@ module _ (first : State) (t0 : ℕ) (old new : Told) (s s' : Inside) (b : Rebuil
   abbrev x : Rebuilt
   x = acted b c
 
-  abbrev then : State
-  then = committed last last.form effect
+  -- the state once its recording is closed, where it ends one
+  abbrev closed : State
+  closed = record last { lanes = tr.lanes }
 
-  abbrev gives : IsGiven tr.held tr.takings s.parts b next c
-  gives = given tr.held tr.takings s.parts b next c tr.ready
+  abbrev then : State
+  then = committed closed last.form effect
+
+  abbrev gives : IsOnItsWay tr.held tr.takings s.parts b going c
+  gives = on_its_way tr.held tr.takings tr.more s.parts b going c tr.ready
 
   abbrev Reached : Type 0
   Reached =
@@ -124,8 +130,8 @@ module _ (first : State) (t0 : ℕ) (old new : Told) (s s' : Inside) (b : Rebuil
   abbrev end : Rebuilt
   end = reached.0
 
-  is_then : then ≡ committed_by false last effect
-  is_then = fits_other last effect fits.behind
+  is_then : then ≡ committed_by false closed effect
+  is_then = fits_other closed effect fits.behind
 
   later_kept : durable_by tr.fill x.kept ≡ changed last.form last.kept effect
   later_kept = tr.brings_it.kept
@@ -186,42 +192,44 @@ module _ (first : State) (t0 : ℕ) (old new : Told) (s s' : Inside) (b : Rebuil
   same_end : (other : Rebuilt) → IsReadBack base.form x other → other ≡ end
   same_end other back = replays.once (switched (formatted x.shape) (map spelling (base_of base.form x))) other end back.rebuilds (reached).1
 
-  committed_then : IsCommitted last effect base.form (state_after last (tapes_of s) (entry_done first t0 old new s s' b next c effect caller call reply tr later sizes alike moments))
+  committed_then : IsCommitted last effect base.form (state_after last (tapes_of s) (entry_done first t0 old new s s' b going c effect caller call reply tr later sizes alike moments))
   committed_then =
-      let is = next_done first t0 old new s s' b next c effect caller call reply tr later sizes alike ∙ is_then in
+      let is = next_done first t0 old new s s' b going c effect caller call reply tr later sizes alike ∙ is_then in
       record { kept = ap (λ (t : State). t.kept) is; doubt = ap (λ (t : State). t.doubt) is ∙ tr.may.sure; form = ap (λ (t : State). t.form) is ∙ sym to_form }
 
-  pub switched_stood : s'.tapes ≡ s.tapes → s'.history.items ≡ s.history.items ++ entry_done first t0 old new s s' b next c effect caller call reply tr later sizes alike moments ∷ []
-      → (IsTrue old.honest → SameElsewhere s.journal.shape old.bytes new.bytes) → KeepsAddresses s.parts.blocks.holders s'.parts.blocks.holders
-      → s'.journal.shape ≡ s.journal.shape → s'.journal.seat ≡ landed_seat s.journal.seat (Area gate) → s'.journal.doubt ≡ None → s'.doubt ≡ None → Forgot s s'
-      → (parts : Parts) → Runs tr.held [] tr.takings parts x → s'.parts ≡ in_form base.form parts
+  pub switched_stood : s'.tapes ≡ s.tapes → s'.history.items ≡ s.history.items ++ entry_done first t0 old new s s' b going c effect caller call reply tr later sizes alike moments ∷ []
+      → (IsTrue old.honest → SameElsewhere s.journal.shape old.bytes new.bytes) → (counted : Holders) → IsCounted going s.parts.blocks.holders counted → KeepsAddresses counted s'.parts.blocks.holders
+      → s'.journal.shape ≡ s.journal.shape → s'.journal.seat ≡ landed_seat s.journal.seat (Area gate) → s'.journal.doubt ≡ None → s'.doubt ≡ None → s'.recordings ≡ closed_in going s.recordings → Forgot s s'
+      → (parts : Parts) → Runs tr.held [] tr.more parts x → s'.parts ≡ in_form base.form parts
       → SwitchesCarry old new → (IsTrue old.honest → Does (λ r. switched r base.payloads) s.journal s'.journal old new × StaysWithin (λ r. switched r base.payloads) s.journal old new)
       → Stood first t0 new s'
-  switched_stood tapes items elsewhere keeps shape seat sure none forgot parts tables parts_are carry does =
-      stood_done first t0 old new s s' b next c effect caller call reply tr later sizes alike end (Area gate) tapes items elsewhere keeps shape seat sure none forgot
-      (subst (λ (p : Parts). Runs tr.held [] tr.takings p end) (sym parts_are) (tables_then tr.held tr.takings parts tables)) fills_then seated_then
+  switched_stood tapes items elsewhere counted counts keeps shape seat sure none recordings forgot parts tables parts_are carry does =
+      stood_done first t0 old new s s' b going c effect caller call reply tr later sizes alike end (Area gate) tapes items elsewhere counted counts keeps shape seat sure none recordings forgot
+      (subst (λ (p : Parts). Runs tr.held [] tr.more p end) (sym parts_are) (tables_then tr.held tr.more parts tables)) fills_then seated_then
       (λ h. let h' = honest h in let d = does h' in
-      let e = entry_done first t0 old new s s' b next c effect caller call reply tr later sizes alike moments in
+      let e = entry_done first t0 old new s s' b going c effect caller call reply tr later sizes alike moments in
       let got = carry.ok first (tapes_of s) t0 s.journal s'.journal b b s.history.items effect base.form base.payloads x e (moments h') (tr.upright.held h') tr.may.sure (spells h') d.0 d.1 refl committed_then in
       subst (λ (r : Rebuilt). IsHeld first (tapes_of s) t0 s'.journal new r r (s.history.items ++ e ∷ [])) (same_end got.0 got.1) got.2)
 
-  waits_then : IsInDoubt last effect (state_after last (tapes_of s) (entry_waits first t0 old new s s' b next c effect caller call reply tr later sizes alike moments))
+  waits_then : IsInDoubt last effect (state_after last (tapes_of s) (entry_waits first t0 old new s s' b going c effect caller call reply tr later sizes alike moments))
   waits_then =
-      let is = next_waits first t0 old new s s' b next c effect caller call reply tr later sizes alike in
+      let is = next_waits first t0 old new s s' b going c effect caller call reply tr later sizes alike in
       record { kept = ap (λ (t : State). t.kept) is; doubt = ap (λ (t : State). t.doubt) is; form = ap (λ (t : State). t.form) is; left = ap (λ (t : State). t.left) is }
 
-  pub switch_waits : (doubted : Doubted) → doubted.next ≡ next → doubted.form ≡ base.form → s'.tapes ≡ s.tapes
-      → s'.history.items ≡ s.history.items ++ entry_waits first t0 old new s s' b next c effect caller call reply tr later sizes alike moments ∷ []
+  pub switch_waits : (doubted : Doubted) → doubted.next ≡ counted_as going → doubted.form ≡ base.form → s'.tapes ≡ s.tapes
+      → s'.history.items ≡ s.history.items ++ entry_waits first t0 old new s s' b going c effect caller call reply tr later sizes alike moments ∷ []
       → (IsTrue old.honest → SameElsewhere s.journal.shape old.bytes new.bytes)
-      → s'.journal.shape ≡ s.journal.shape → s'.journal.seat ≡ s.journal.seat → s'.journal.doubt ≡ Some (Area gate) → s'.doubt ≡ Some doubted → s'.parts ≡ s.parts → Unmoved s s'
+      → s'.journal.shape ≡ s.journal.shape → s'.journal.seat ≡ s.journal.seat → s'.journal.doubt ≡ Some (Area gate) → s'.doubt ≡ Some doubted
+      → IsNext tr.held tr.more s'.parts b (counted_as going) c → IsCounted going s.parts.blocks.holders s'.parts.blocks.holders → s'.recordings ≡ closed_in going s.recordings → Unmoved s s'
       → SwitchesCarry old new → (IsTrue old.honest → Doubts (λ r. switched r base.payloads) s.journal s'.journal old new × StaysWithin (λ r. switched r base.payloads) s.journal old new)
       → Stood first t0 new s'
-  switch_waits doubted same form tapes items elsewhere shape seat unsure some parts unmoved carry doubts =
-      stood_waits first t0 old new s s' b next c effect caller call reply tr later sizes alike end (Area gate) doubted same tapes items elsewhere shape seat unsure some parts unmoved
+  switch_waits doubted same form tapes items elsewhere shape seat unsure some ready counts recordings unmoved carry doubts =
+      stood_waits first t0 old new s s' b going c effect caller call reply tr later sizes alike end (Area gate) doubted same tapes items elsewhere shape seat unsure some ready counts recordings unmoved
       (λ held takings p shows. subst (λ (f : ℕ). Runs held [] takings (in_form f p) end) (sym form) (tables_then held takings p shows))
+      (λ holders there. subst (λ ps. Every (IsAt holders) ps) (sym (reached).4) (every_ordered (IsAt holders) x.places there))
       fills_then
       seated_then
       (λ h. let h' = honest h in let d = doubts h' in
-      let e = entry_waits first t0 old new s s' b next c effect caller call reply tr later sizes alike moments in
+      let e = entry_waits first t0 old new s s' b going c effect caller call reply tr later sizes alike moments in
       let got = carry.doubt first (tapes_of s) t0 s.journal s'.journal b b s.history.items effect base.form base.payloads x e (moments h') (tr.upright.held h') tr.may.sure (spells h') d.0 d.1 refl (fits.behind, to_form, waits_then) in
       subst (λ (r : Rebuilt). IsHeld first (tapes_of s) t0 s'.journal new b r (s.history.items ++ e ∷ [])) (same_end got.0 got.1) got.2)

@@ -1,5 +1,5 @@
 -- A call that changes what the lanes hold, and nothing that outlives a crash.
-use Rattle.std.proofs.Common.{◌≡◌, ◌⊎◌, inl, inr, ℕ, ◌+◌, ◌<◌, ◌≤◌, ◌^◌, Bool, List, [], ◌∷◌, ◌++◌, length, replicate, Option, Some, None, IsTrue, is_some, refl, sym, ◌∙◌, ap, subst, arith}
+use Rattle.std.proofs.Common.{◌≡◌, ◌⊎◌, inl, inr, ℕ, ◌+◌, ◌<◌, ◌≤◌, ◌^◌, Bool, List, [], ◌∷◌, ◌++◌, length, Option, Some, None, IsTrue, is_some, refl, sym, ◌∙◌, ap, subst, arith}
 use Rattle.voice_units.specs.declared.pieces.Piece.{Piece}
 use Rattle.voice_units.specs.declared.shapes.Shape.{Shape}
 use Rattle.voice_units.specs.Spots.{Spot}
@@ -12,7 +12,6 @@ use Rattle.voice_model.specs.State.{State, LaneState, Pending}
 use Rattle.voice_model.specs.Changes.{changed}
 use Rattle.voice_model.specs.Step.{after_landing, landed, state_after}
 use Rattle.voice_model.specs.Heard.{IsAnswerOn}
-use Rattle.voice_model.specs.Room.{taking_blocks}
 use Rattle.voice_model.specs.Replay.{Rebuilt}
 use Rattle.voice_model.specs.Valid.{IsState}
 use Rattle.voice_model.specs.declared.calls.Entry.{Entry}
@@ -31,11 +30,12 @@ use Rattle.crash_laws.specs.Standing.{IsHeld, IsHonest}
 use Rattle.crash_laws.specs.Calls.{KeepsDurable}
 use Rattle.crash_laws.specs.Laws.{EntriesCount}
 use Rattle.voice_store.specs.declared.inside.Inside.{Inside}
-use Rattle.voice_store.specs.Filled.{IsFilled}
+use Rattle.recording_calls.specs.Shown.{ShowsRecordings}
+use Rattle.voice_store.specs.Filled.{HaveBytes}
 use Rattle.voice_store.specs.Facts.{landing_at}
-use Rattle.voice_store.specs.Playing.{bytes_by, PassagesBelow, NoneRecords, MovesLanes}
+use Rattle.voice_store.specs.Playing.{bytes_by, PassagesBelow, KeepsTakings, MovesLanes}
 use Rattle.voice_store.specs.Stood.{tapes_of, last_of, Fills, IsSeated, IsHolding, IsSure, IsUnsure, Plays, Stood}
-use Rattle.voice_store.proofs.Filled.{still_filled, stays_same}
+use Rattle.voice_store.proofs.Filled.{still_has, stays_same}
 use Rattle.voice_store.proofs.Pushed.{stood_pushed}
 use Rattle.voice_store.proofs.Settled.{is_true}
 use Rattle.voice_store.proofs.StillReady.{next_pledged, still_ready}
@@ -50,33 +50,24 @@ landed_moved s lanes made = by s.doubt
     by (Some pending) = refl
 
 -- what is the same but for the lanes, is the same where only these differ
-abbrev SameButLanes : State → State → Type 0
+abbrev pub SameButLanes : State → State → Type 0
 SameButLanes old new = (lanes : List LaneState) × (made : ℕ) × (new ≡ record old { lanes = lanes; made = made })
 
-landed_same : (old new : State) → MovesLanes old new → SameButLanes (landed old) (landed new)
+pub landed_same : (old new : State) → MovesLanes old new → SameButLanes (landed old) (landed new)
 landed_same old new moves = (new.lanes, new.made, ap landed moves ∙ landed_moved old new.lanes new.made)
 
-fills_moved : (fill : Spot → Tagged) (b : Rebuilt) (old new : State) → SameButLanes old new → Fills fill b old → Fills fill b new
+pub fills_moved : (fill : Spot → Tagged) (b : Rebuilt) (old new : State) → SameButLanes old new → Fills fill b old → Fills fill b new
 fills_moved fill b old new moves h = record {
   spots = h.spots;
   kept = h.kept ∙ sym (ap (λ (t : State). t.kept) moves.2);
   form = h.form ∙ sym (ap (λ (t : State). t.form) moves.2);
 }
 
-seated_moved : (j : JournalValue) (old new : State) → SameButLanes old new → IsSeated j old → IsSeated j new
+pub seated_moved : (j : JournalValue) (old new : State) → SameButLanes old new → IsSeated j old → IsSeated j new
 seated_moved j old new moves h =
     let left = h.left in
     let same = ap (λ (t : State). t.left) moves.2 in
     record { shape = ap (λ (t : State). t.kept.shape) moves.2 ∙ h.shape; left = omega (arith, left, same); epoch = ap (λ (t : State). t.epoch) moves.2 ∙ h.epoch }
-
--- ---- recordings that are not open
-
-none_taken : (block : ℕ) (lanes : List LaneState) → NoneRecords lanes → takings_of block lanes ≡ replicate (length lanes) (taking_blocks block None)
-none_taken block [] none = refl
-none_taken block (lane ∷ lanes) none = ap (λ o. taking_blocks block o ∷ takings_of block lanes) none.0 ∙ ap (λ l. taking_blocks block None ∷ l) (none_taken block lanes none.1)
-
-same_takings : (block : ℕ) (old new : List LaneState) → length new ≡ length old → NoneRecords old → NoneRecords new → takings_of block old ≡ takings_of block new
-same_takings block old new same none still = none_taken block old none ∙ ap (λ n. replicate n (taking_blocks block None)) (sym same) ∙ sym (none_taken block new still)
 
 -- ---- the step
 
@@ -94,7 +85,9 @@ pub record Turns (honest : Bool) (fill : Spot → Tagged) (b : Rebuilt) (s s' : 
   pub interests : s'.parts.interests.spare ≡ s.parts.interests.spare
   pub bytes : IsTrue honest → HoldsBytes (bytes_by fill s.journal.shape.block) s.lanes.frames → HoldsBytes (bytes_by fill s.journal.shape.block) s'.lanes.frames
   pub below : PassagesBelow now.next now.lanes
-  pub unrecorded : NoneRecords now.lanes
+  pub blocks : (block : ℕ) → takings_of block now.lanes ≡ takings_of block last.lanes
+  pub takes : KeepsTakings last now
+  pub recorded : ShowsRecordings s'.recordings now
 
 module _ (first : State) (t0 : ℕ) (disk : Told) (s : Inside) (stood : Stood first t0 disk s) where
   abbrev last : State
@@ -147,7 +140,7 @@ module _ (first : State) (t0 : ℕ) (disk : Told) (s : Inside) (stood : Stood fi
     holds : IsHolding held stood.takings block now.lanes
     holds = record {
       passages = refl;
-      recordings = stood.holding.recordings ∙ ap (λ n. takings_of n last.lanes) (sym same_block) ∙ same_takings block last.lanes now.lanes many stood.playing.unrecorded turns.unrecorded;
+      recordings = stood.holding.recordings ∙ ap (λ n. takings_of n last.lanes) (sym same_block) ∙ sym (turns.blocks block);
     }
 
     -- the tables run on
@@ -162,7 +155,7 @@ module _ (first : State) (t0 : ℕ) (disk : Told) (s : Inside) (stood : Stood fi
       used = stands_now.used;
       bytes = λ h. subst (λ n. HoldsBytes (bytes_by stood.fill n) s'.lanes.frames) (sym same_block) (turns.bytes h (stood.playing.bytes h));
       below = turns.below;
-      unrecorded = turns.unrecorded;
+      recorded = turns.recorded;
     }
 
     moved : SameButLanes last now
@@ -197,6 +190,7 @@ module _ (first : State) (t0 : ℕ) (disk : Told) (s : Inside) (stood : Stood fi
               brings_it = record { spots = unsure.brings_it.spots; kept = unsure.brings_it.kept ∙ ap (λ (t : State). changed t.form t.kept unsure.pending.effect) (sym turns.moves) };
               lands = record {
                 tables = unsure.lands.tables;
+                places = unsure.lands.places;
                 fills = fills_moved stood.fill stood.after (landed last) (landed now) (landed_same last now turns.moves) unsure.lands.fills;
                 seated = subst (λ (j : JournalValue). IsSeated (record j { seat = landed_seat j.seat unsure.doubt }) (landed now)) (sym turns.journal)
                     (seated_moved (record s.journal { seat = landed_seat s.journal.seat unsure.doubt }) (landed last) (landed now) (landed_same last now turns.moves) unsure.lands.seated);
@@ -222,8 +216,8 @@ module _ (first : State) (t0 : ℕ) (disk : Told) (s : Inside) (stood : Stood fi
         (to (λ t. IsSeated s'.journal t) (subst (λ (j : JournalValue). IsSeated j now) (sym turns.journal) (seated_moved s.journal last now moved up.seated)))
         (λ h. subst (λ (j : JournalValue). IsHeld first (tapes_of s) t0 j disk stood.b stood.after (s.history.items ++ e ∷ [])) (sym turns.journal)
         (counts.noted first (tapes_of s) t0 s.journal stood.b stood.after s.history.items e (honest h) (up.held h) ack keeps))
-        (λ h. subst (λ (j : JournalValue). IsFilled stood.fill j.shape disk.bytes s'.parts.blocks.holders) (sym turns.journal)
-        (still_filled stood.fill s.journal.shape disk.bytes disk.bytes s.parts.blocks.holders s'.parts.blocks.holders turns.addresses (stays_same s.journal.shape disk.bytes disk.bytes refl) (up.bytes h)))
+        (λ h. to (λ t. HaveBytes stood.fill s'.journal.shape disk.bytes s'.parts.blocks.holders t) (subst (λ (j : JournalValue). HaveBytes stood.fill j.shape disk.bytes s'.parts.blocks.holders now) (sym turns.journal)
+        (still_has stood.fill s.journal.shape disk.bytes disk.bytes s.parts.blocks.holders s'.parts.blocks.holders last now turns.takes turns.addresses (stays_same s.journal.shape disk.bytes disk.bytes refl) (up.bytes h))))
         (to (λ t. IsSure held stood.takings s' stood.b stood.after t ⊎ IsUnsure stood.fill held stood.takings s' stood.b stood.after t) tables_now)
         (to (λ t. Plays stood.fill disk.honest s' t) plays_now)
         (subst (λ (j : JournalValue). extent j.shape ≤ disk.size) (sym turns.journal) stood.size)

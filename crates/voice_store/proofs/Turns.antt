@@ -22,7 +22,8 @@ use Rattle.voice_store.specs.Stood.{Stood, last_of, tapes_of}
 use Rattle.voice_store.specs.Facts.{Adds, AddsLanding, GoesOn, IsFault, entry_of, landing_at, stretches_of}
 use Rattle.voice_store.specs.Shown.{Stands}
 use Rattle.voice_store.specs.Feeding.{told}
-use Rattle.voice_store.specs.DeviceCalls.{change_calls, landing_calls}
+use Rattle.voice_units.specs.declared.pieces.Take.{Take}
+use Rattle.voice_store.specs.DeviceCalls.{add_calls, change_calls, landing_calls}
 use Rattle.voice_store.specs.Turns.{window_blocks, calls_beside, entry_calls, ShortTurns, AddsLandingAt, AddsShortly}
 use Rattle.listening.specs.Looks.{Looked}
 use Rattle.voice_outside.specs.Counters.{HasRisen}
@@ -66,7 +67,7 @@ turns_added first tapes low caller call reply old new was items turns (inr two) 
 -- of a call of a changing kind
 of_change : (s : State) (tapes : List (List ℕ)) (call : Call) → IsTrue (is_changing call) → cond (is_some s.doubt) 2 (change_calls s tapes call) ≡ entry_calls s tapes call
 unfolding entry_calls
-of_change s tapes call changing = sym (ap (λ b. cond b (cond (is_some s.doubt) 2 (change_calls s tapes call)) (calls_beside s call)) changing)
+of_change s tapes call changing = sym (ap (λ b. cond b (cond (is_some s.doubt) 2 (change_calls s tapes call)) (calls_beside s tapes call)) changing)
 
 -- where nothing is in doubt
 of_sure : (s : State) (tapes : List (List ℕ)) (call : Call) → IsTrue (is_changing call) → s.doubt ≡ None → change_calls s tapes call ≡ entry_calls s tapes call
@@ -94,6 +95,11 @@ of_feed : (s : State) (tapes : List (List ℕ)) (lane : ℕ) (back : Option ℕ)
 unfolding entry_calls
 of_feed s tapes lane back = refl
 
+-- of an Add
+of_add : (s : State) (tapes : List (List ℕ)) (lane : ℕ) (take : Take) → add_calls s tapes lane take ≡ entry_calls s tapes (calls.Add lane take)
+unfolding entry_calls
+of_add s tapes lane take = refl
+
 -- ---- a call, with or without a landing
 
 -- a call that makes so many device calls at most
@@ -113,6 +119,13 @@ pub adds_heard : (s t : State) (tapes : List (List ℕ)) (low caller : ℕ) (cal
 adds_heard s t tapes low caller call sound id ack old new result is same le items =
     let few = ap (λ (x : State). stretches_of x id) same ∙ of_sound s tapes sound id ∙ ap (entry_calls s tapes) (sym is) in
     adds_within s tapes low caller call ack (stretches_of t id) old new result le (omega (arith, few)) items
+
+-- one that adds to a recording
+pub adds_added : (s t : State) (tapes : List (List ℕ)) (low caller : ℕ) (call : Call) (lane : ℕ) (take : Take) (ack : ℕ) (old new : List Entry) (result : Result Reply NoMemory) → call ≡ calls.Add lane take → t ≡ s → ack ≤ low + add_calls t tapes lane take
+    → IfOk result (λ reply. new ≡ old ++ entry_of caller call reply ack ∷ []) → IfOk result (λ reply. AddsShortly s tapes low caller call reply ack old new)
+adds_added s t tapes low caller call lane take ack old new result is same le items =
+    let few = ap (λ (x : State). add_calls x tapes lane take) same ∙ of_add s tapes lane take ∙ ap (entry_calls s tapes) (sym is) in
+    adds_within s tapes low caller call ack (add_calls t tapes lane take) old new result le (omega (arith, few)) items
 
 -- the same entry, of a call and behind a history that are the same
 pub items_from : (caller : ℕ) (call call' : Call) (ack : ℕ) (old mid new : List Entry) (result : Result Reply NoMemory) → call ≡ call' → mid ≡ old

@@ -1,19 +1,19 @@
 -- A recording whose rope is ready, before and after its samples were written.
-use Rattle.std.proofs.Common.{◌≡◌, inl, ℕ, ◌+◌, ◌*◌, ◌<◌, ◌≤◌, ◌==◌, Bool, true, false, cond, List, [], ◌∷◌, ◌++◌, length, Some, None, IsTrue, refl, sym, ◌∙◌, ap, subst, arith}
+use Rattle.std.proofs.Common.{◌≡◌, inl, ℕ, ◌+◌, ◌*◌, ◌<◌, ◌≤◌, ◌==◌, Bool, true, false, cond, List, [], ◌∷◌, ◌++◌, length, Option, Some, None, is_some, IsTrue, refl, sym, ◌∙◌, ap, subst, arith}
 use Rattle.std.specs.Prelude.{Vec, slice_index}
 use Rattle.std.specs.List.{list_all}
 use Rattle.std.specs.declared.alloc.Global.{Global}
 use Rattle.voice_units.specs.declared.pieces.Take.{Take}
 use Rattle.voice_units.specs.declared.shapes.Shape.{Shape}
 use Rattle.voice_units.specs.declared.pieces.Piece.{Piece}
-use Rattle.voice_blocks.specs.Holders.{holder_at, block_of}
+use Rattle.voice_blocks.specs.Holders.{Holders, holder_at, block_of}
 use Rattle.voice_blocks.specs.declared.owner.Owner.TheVariants.{File}
 use Rattle.voice_units.specs.Spots.{Spot, samples_in, spots_from, pieces_of}
 use Rattle.voice_units.specs.Blocks.{blocks_for}
 use Rattle.voice_outside.specs.Disk.{Told}
 use Rattle.voice_model.specs.Samples.{Tagged, bytes_of, recording, recorded_from}
-use Rattle.voice_model.specs.State.{State, Effect}
-use Rattle.voice_model.specs.Changes.{changed, frame_size}
+use Rattle.voice_model.specs.State.{State, Effect, Pending}
+use Rattle.voice_model.specs.Changes.{changed, frame_size, taking_of}
 use Rattle.voice_model.specs.Changes as sizes
 use Rattle.voice_model.specs.Tapes.{taken}
 use Rattle.voice_model.specs.Step.{refusal, reply_of}
@@ -25,7 +25,8 @@ use Rattle.voice_model.specs.Spelling.{spelling}
 use Rattle.voice_model.specs.declared.calls.Call.TheVariants as calls
 use Rattle.voice_model.specs.declared.calls.Reply.{Reply}
 use Rattle.voice_model.specs.declared.calls.Reply.TheVariants as replies
-use Rattle.next_changes.specs.declared.NextChange.{NextChange}
+use Rattle.voice_store.specs.declared.going.Going.{Going}
+use Rattle.voice_store.specs.declared.going.Going.TheVariants as goings
 use Rattle.next_changes.specs.declared.NextChange.TheVariants as changes
 use Rattle.voice_store.specs.declared.committing.Plan.{Plan}
 use Rattle.voice_model.specs.declared.calls.Why.TheVariants as why
@@ -53,9 +54,11 @@ use Rattle.crash_laws.proofs.Opened.{standing_gives}
 use Rattle.crash_laws.proofs.Writing.{writes_carry}
 use Rattle.crash_laws.proofs.Noted.{entries_count}
 use Rattle.voice_store.specs.declared.inside.Inside.{Inside}
-use Rattle.voice_store.specs.Filled.{IsFilled, IsPadded}
+use Rattle.recording_adds.specs.Adds.{HasWhole}
+use Rattle.voice_store.specs.Filled.{IsFilled, HaveBytes, IsPadded}
 use Rattle.voice_store.specs.Stood.{last_of, tapes_of, Upright, IsSure, Plays, Stood}
-use Rattle.voice_store.proofs.Filled.{placed_each, next_only, unwritten_filled, written_filled}
+use Rattle.voice_store.proofs.Filled.{placed_each, next_only, unwritten_filled, written_filled, elsewhere_whole, takes_same}
+use Rattle.voice_store.proofs.Refused.{wrong}
 use Rattle.voice_store.specs.Facts.{MayCommit, entry_of}
 use Rattle.voice_store.specs.Trying.{IsPlan, Trying}
 use Rattle.voice_store.specs.Keeping.{HasRoom, HoldsRecording, recorded_by}
@@ -82,8 +85,8 @@ abbrev pub change_in : Rebuilt → NextRope → Change
 change_in b next = next_change b.form next
 
 -- a change brings one rope
-pub same_rope : (next : NextChange) (a b : NextRope) → next ≡ changes.Rope a → next ≡ changes.Rope b → a ≡ b
-same_rope next a b p q = let e : changes.Rope a ≡ changes.Rope b = sym p ∙ q in cc
+pub same_rope : (going : Going) (a b : NextRope) → going ≡ goings.Change (changes.Rope a) → going ≡ goings.Change (changes.Rope b) → a ≡ b
+same_rope going a b p q = let e : goings.Change (changes.Rope a) ≡ goings.Change (changes.Rope b) = sym p ∙ q in cc
 
 -- a rope that holds a recording, and gets into the journal so
 abbrev pub Goes : State → ℕ → Told → Inside → Take → Plan → NextRope → Type 0
@@ -170,7 +173,7 @@ module _ (first : State) (t0 : ℕ) (old : Told) (s : Inside) (take : Take) (nex
   unrefused : refusal last (tapes_of s) (calls.Record take) ≡ None
   unrefused = recording_free first t0 old then take h.makes h.free
 
-  pub may : (caller : ℕ) → MayCommit last (tapes_of s) caller (calls.Record take) effect
+  pub may : (caller : ℕ) → MayCommit last (tapes_of s) caller (calls.Record take) effect last.lanes
   may caller = may_commit last (tapes_of s) caller (calls.Record take) effect (recording_makes last (tapes_of s) take) tables_then.in_state unrefused refl
 
   count : (block : ℕ) → block ≡ s.journal.shape.block → length addresses ≡ blocks_for block (length (recording last.next bytes))
@@ -238,24 +241,33 @@ module _ (first : State) (t0 : ℕ) (old : Told) (s : Inside) (take : Take) (nex
         (subst (λ (x : Shape). WroteAt x addresses old new) (sym in_shape) (wrote is)))
 
     held_on : (after' : Rebuilt) → IsHeld first (tapes_of s) t0 s.journal old b after' s.history.items → IsTrue old.honest → IsHeld first (tapes_of s) t0 s.journal new b after' s.history.items
-    held_on after' held is = (writes_carry laws old new).spared first (tapes_of s) t0 s.journal b after' s.history.items (moments is) held tables_then.in_state (spared is)
+    held_on after' held is = (writes_carry laws old new).spared first (tapes_of s) t0 s.journal b after' s.history.items (moments is) held (spared is) (λ some. absurd (wrong (sym (ap (λ (o : Option Pending). is_some o) tables_then.in_state) ∙ some)))
 
-    back_filled : (parts : Parts) → KeepsAddresses s.parts.blocks.holders parts.blocks.holders → Runs h.makes.stood.held [] h.makes.stood.takings parts b → IsTrue new.honest → IsFilled h.makes.stood.fill s.journal.shape new.bytes parts.blocks.holders
-    back_filled parts keeps shows is =
-        unwritten_filled h.makes.stood.fill h.makes.stood.upright.fills.spots s.journal.shape b.next addresses old.bytes new.bytes h.before.blocks.holders s.parts.blocks.holders h.handed none_before own
-        (wrote (to_old is)).bytes (h.makes.stood.upright.bytes (to_old is)) parts.blocks.holders keeps (none_yet h.makes.stood.held h.makes.stood.takings parts b shows)
+    whole_on : IsTrue new.honest → (to : Holders) → KeepsAddresses s.parts.blocks.holders to → (lane : ℕ) → HasWhole s.journal.shape new.bytes to lane (taking_of last lane)
+    whole_on is to keeps =
+        elsewhere_whole h.makes.stood.fill h.makes.stood.upright.fills.spots s.journal.shape b.next addresses old.bytes new.bytes h.before.blocks.holders s.parts.blocks.holders h.handed none_before own
+        (wrote (to_old is)).bytes (h.makes.stood.upright.bytes (to_old is)).filled last (h.makes.stood.upright.bytes (to_old is)).whole to keeps
 
-    all_filled : (IsTrue old.honest → HasBytes new.bytes s.journal.shape addresses bytes) → (IsTrue old.honest → IsPadded new.bytes s.journal.shape addresses (length bytes)) → IsTrue new.honest → IsFilled later s.journal.shape new.bytes s.parts.blocks.holders
-    all_filled has padded is =
-        subst (λ n. IsFilled (later_fill h.makes.stood.fill n bytes) s.journal.shape new.bytes s.parts.blocks.holders) number
-        (written_filled h.makes.stood.fill h.makes.stood.upright.fills.spots s.journal.shape b.next addresses old.bytes new.bytes h.before.blocks.holders s.parts.blocks.holders h.handed none_before own
-        (wrote (to_old is)).bytes (h.makes.stood.upright.bytes (to_old is)) bytes only_own h.ready.runs.given.single (has (to_old is)) (padded (to_old is)))
+    back_filled : (parts : Parts) → KeepsAddresses s.parts.blocks.holders parts.blocks.holders → Runs h.makes.stood.held [] h.makes.stood.takings parts b → IsTrue new.honest → HaveBytes h.makes.stood.fill s.journal.shape new.bytes parts.blocks.holders last
+    back_filled parts keeps shows is = record {
+      filled = unwritten_filled h.makes.stood.fill h.makes.stood.upright.fills.spots s.journal.shape b.next addresses old.bytes new.bytes h.before.blocks.holders s.parts.blocks.holders h.handed none_before own
+          (wrote (to_old is)).bytes (h.makes.stood.upright.bytes (to_old is)).filled parts.blocks.holders keeps (none_yet h.makes.stood.held h.makes.stood.takings parts b shows);
+      whole = whole_on is parts.blocks.holders keeps;
+    }
+
+    all_filled : (IsTrue old.honest → HasBytes new.bytes s.journal.shape addresses bytes) → (IsTrue old.honest → IsPadded new.bytes s.journal.shape addresses (length bytes)) → IsTrue new.honest → HaveBytes later s.journal.shape new.bytes s.parts.blocks.holders last
+    all_filled has padded is = record {
+      filled = subst (λ n. IsFilled (later_fill h.makes.stood.fill n bytes) s.journal.shape new.bytes s.parts.blocks.holders) number
+          (written_filled h.makes.stood.fill h.makes.stood.upright.fills.spots s.journal.shape b.next addresses old.bytes new.bytes h.before.blocks.holders s.parts.blocks.holders h.handed none_before own
+          (wrote (to_old is)).bytes (h.makes.stood.upright.bytes (to_old is)).filled bytes only_own h.ready.runs.given.single (has (to_old is)) (padded (to_old is)));
+      whole = whole_on is s.parts.blocks.holders (λ a holder held. held);
+    }
 
     held_now : IsTrue new.honest → IsHeld first (tapes_of s) t0 s.journal new b b s.history.items
     held_now is = held_on b (subst (λ x. IsHeld first (tapes_of s) t0 s.journal old b x s.history.items) tables_then.same (h.makes.stood.upright.held (to_old is))) (to_old is)
 
     -- the tables hold these blocks or not, as the disk has them
-    upright_on : (parts : Parts) → (IsTrue new.honest → IsFilled h.makes.stood.fill s.journal.shape new.bytes parts.blocks.holders) → Upright first t0 new (record s { parts = parts }) h.makes.stood.fill b b
+    upright_on : (parts : Parts) → (IsTrue new.honest → HaveBytes h.makes.stood.fill s.journal.shape new.bytes parts.blocks.holders last) → Upright first t0 new (record s { parts = parts }) h.makes.stood.fill b b
     upright_on parts filled = let up = h.makes.stood.upright in record {
       legal = as_honest first old new s alike up.legal;
       valid = up.valid;
@@ -267,7 +279,7 @@ module _ (first : State) (t0 : ℕ) (old : Told) (s : Inside) (take : Take) (nex
     }
 
     -- the recording's bytes are filled in besides
-    upright_later : (IsTrue new.honest → IsFilled later s.journal.shape new.bytes s.parts.blocks.holders) → Upright first t0 new s later b b
+    upright_later : (IsTrue new.honest → HaveBytes later s.journal.shape new.bytes s.parts.blocks.holders last) → Upright first t0 new s later b b
     upright_later filled = let up = h.makes.stood.upright in record {
       legal = as_honest first old new s alike up.legal;
       valid = up.valid;
@@ -285,17 +297,17 @@ module _ (first : State) (t0 : ℕ) (old : Told) (s : Inside) (take : Take) (nex
     -- the lanes play on over tables that show the same
     plays_by : (parts : Parts) → Shows h.makes.stood.held parts b.kept → Plays h.makes.stood.fill new.honest (record s { parts = parts }) last
     plays_by parts shows =
-        playing_as_honest h.makes.stood.fill old.honest new.honest s.journal.shape.block parts.ropes s.lanes s.made last alike
-        (playing_by h.makes.stood.held h.before parts b.kept tables_then.tables.kept shows h.makes.stood.fill old.honest s.journal.shape.block s.lanes s.made last h.makes.stood.playing)
+        playing_as_honest h.makes.stood.fill old.honest new.honest s.journal.shape.block parts.ropes s.lanes s.made s.recordings last alike
+        (playing_by h.makes.stood.held h.before parts b.kept tables_then.tables.kept shows h.makes.stood.fill old.honest s.journal.shape.block s.lanes s.made s.recordings last h.makes.stood.playing)
 
     -- also where the recording's bytes are filled in
     plays_later : Plays later new.honest s last
     plays_later =
-        playing_later h.makes.stood.fill h.makes.stood.upright.fills.spots last.next bytes new.honest s.journal.shape.block h.makes.stood.held (next.pieces ∷ []) h.makes.stood.takings s.parts b s.lanes s.made last
+        playing_later h.makes.stood.fill h.makes.stood.upright.fills.spots last.next bytes new.honest s.journal.shape.block h.makes.stood.held (next.pieces ∷ []) h.makes.stood.takings s.parts b s.lanes s.made s.recordings last
         h.ready.runs number refl (plays_by s.parts h.ready.runs.kept)
 
     -- all was written
-    pub trying_recording : (caller : ℕ) → (IsTrue old.honest → HasBytes new.bytes s.journal.shape addresses bytes) → (IsTrue old.honest → IsPadded new.bytes s.journal.shape addresses (length bytes)) → (answer : Reply) → answer ≡ reply → Trying first t0 new s b (changes.Rope next) change effect caller (calls.Record take) answer
+    pub trying_recording : (caller : ℕ) → (IsTrue old.honest → HasBytes new.bytes s.journal.shape addresses bytes) → (IsTrue old.honest → IsPadded new.bytes s.journal.shape addresses (length bytes)) → (answer : Reply) → answer ≡ reply → Trying first t0 new s b (goings.Change (changes.Rope next)) change effect caller (calls.Record take) answer
     trying_recording caller has padded answer answers = record {
       fill = later;
       upright = upright_later (all_filled has padded);
@@ -303,11 +315,18 @@ module _ (first : State) (t0 : ℕ) (old : Told) (s : Inside) (take : Take) (nex
       in_journal = tables_then.in_journal;
       held = h.makes.stood.held;
       takings = h.makes.stood.takings;
+      more = h.makes.stood.takings;
       holding = h.makes.stood.holding;
-      ready = h.ready;
+      ready = (refl, h.ready);
+      holding_then = h.makes.stood.holding;
+      jobs = refl;
+      takes = takes_same last last refl;
+      recorded = h.makes.stood.playing.recorded;
+      will_have = λ told. tt;
       playing = plays_later;
       addresses = addresses;
       change = the_change;
+      lanes = last.lanes;
       may = may caller;
       replies = reply_is ∙ sym answers;
       in_range = tt;

@@ -19,6 +19,8 @@ IsAsking call (asks.Interest class key) = call ≡ calls.Lookup class key
 IsAsking call (asks.Sound sound rope) = call ≡ call_for sound rope
 IsAsking call (asks.Job lane rope start len) = call ≡ calls.Play lane rope start len
 IsAsking call (asks.Stop lane) = call ≡ calls.Stop lane
+IsAsking call (asks.Begin lane) = call ≡ calls.Begin lane
+IsAsking call (asks.Add lane take) = call ≡ calls.Add lane take
 IsAsking call asks.Change = IsTrue (is_changing call)
 
 -- an interest stands, of this rope and with this note

@@ -1,7 +1,7 @@
 -- What calls of the store are, for its proofs.
 --     entry_of caller call reply ack, landing_at ack      an entry; that of a landing
 --     Stays honest s tapes caller call reply      the call may be answered so on a disk of this honesty, which leaves the state
---     MayCommit s tapes caller call effect      nothing refuses the call, which makes this change and does nothing else
+--     MayCommit s tapes caller call effect lanes      nothing refuses the call, which makes this change, leaves these lanes, and does nothing else
 --     Adds caller call reply ack old new      the entry of a call came last, after a landing where one was made
 --     AddsLanding old new      no entry came, or that of a landing
 --     Goes most old new      the counts of a disk after at most so many calls
@@ -17,7 +17,7 @@ use Rattle.std.specs.Prelude.{◌≡◌, ◌⊎◌, ℕ, ◌+◌, ◌≤◌, Boo
 use Rattle.voice_outside.specs.Disk.{Told}
 use Rattle.voice_units.specs.Spots.{stretches}
 use Rattle.voice_model.specs.Samples.{Tagged, spots_in_rope}
-use Rattle.voice_model.specs.State.{State, Effect, samples_of}
+use Rattle.voice_model.specs.State.{State, Effect, LaneState, samples_of}
 use Rattle.voice_model.specs.Changes.{committed}
 use Rattle.voice_model.specs.Tapes.{HasTake}
 use Rattle.voice_model.specs.Step.{IsReply, state_after, reply_of, outcome_of}
@@ -42,14 +42,14 @@ pub record Stays (honest : Bool) (s : State) (tapes : List (List ℕ)) (caller :
   pub answers : IsReplyOn honest s tapes caller call reply
   pub stays : (ack : ℕ) → state_after s tapes (entry_of caller call reply ack) ≡ s
 
--- a call that nothing refuses; it makes this change and does nothing else, or faults before, or in doubt
-pub record MayCommit (s : State) (tapes : List (List ℕ)) (caller : ℕ) (call : Call) (effect : Effect Tagged) : Type 0 where
+-- a call that nothing refuses; it makes this change, leaves these lanes, since an End closes its recording, and does nothing else, or faults before, or in doubt
+pub record MayCommit (s : State) (tapes : List (List ℕ)) (caller : ℕ) (call : Call) (effect : Effect Tagged) (lanes : List LaneState) : Type 0 where
   pub sure : s.doubt ≡ None
   pub answers : IsReply s tapes caller call (reply_of s tapes call)
-  pub commits : (ack : ℕ) → state_after s tapes (entry_of caller call (reply_of s tapes call) ack) ≡ committed s s.form effect
+  pub commits : (ack : ℕ) → state_after s tapes (entry_of caller call (reply_of s tapes call) ack) ≡ committed (record s { lanes = lanes }) s.form effect
   pub faults : Stays true s tapes caller call (replies.No why.DiskFault)
   pub doubts : IsReply s tapes caller call (replies.No why.InDoubt)
-  pub waits : (ack : ℕ) → state_after s tapes (entry_of caller call (replies.No why.InDoubt) ack) ≡ record s { doubt = Some (record { effect = effect; form = s.form }) }
+  pub waits : (ack : ℕ) → state_after s tapes (entry_of caller call (replies.No why.InDoubt) ack) ≡ record s { lanes = lanes; doubt = Some (record { effect = effect; form = s.form }) }
 
 -- the entry of a call came last, after a landing where one was made
 abbrev pub Adds : ℕ → Call → Reply → ℕ → List Entry → List Entry → Type 0

@@ -1,9 +1,11 @@
 pub mod Altering
 pub mod Asking
 pub mod DeviceCalls
+pub mod Ends
 pub mod Facts
 pub mod Feeding
 pub mod Filled
+pub mod Going
 pub mod Keeping
 pub mod Playing
 pub mod Shown

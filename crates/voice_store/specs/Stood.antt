@@ -8,7 +8,7 @@
 --     AcksRise low history high      the moments of the entries never fall, and lie between these
 --     Upright      the history is legal (on a disk that isn't honest but for what was read off it), the disk holds it, and its blocks have their bytes, whatever ropes the tables show
 --     IsSure, IsUnsure      the tables show the state: nothing is in doubt, or a change is ready to be done
---     Plays fill honest s last      the lanes of the program show those of a state
+--     Plays fill honest s last      the lanes and the open recordings of the program show those of a state
 --     Stood      all of it, but for the count of faults
 use Rattle.std.specs.Prelude.{◌≡◌, ◌⊎◌, ℕ, ◌+◌, ◌≤◌, Bool, true, false, List, [], ◌∷◌, Some, None, IsTrue}
 use Rattle.std.specs.Arc.{arc_value}
@@ -26,14 +26,16 @@ use Rattle.voice_model.specs.Step as step
 use Rattle.voice_model.specs.Heard.{LegalOn}
 use Rattle.voice_model.specs.Replay.{Rebuilt, durable_by, acted}
 use Rattle.voice_model.specs.Base.{change_of}
-use Rattle.voice_model.specs.Valid.{IsState}
+use Rattle.voice_model.specs.Valid.{Every, IsState}
 use Rattle.voice_model.specs.declared.changes.Change.{Change}
 use Rattle.voice_model.specs.declared.calls.Entry.{Entry}
+use Rattle.voice_blocks.specs.Holders.{Holders}
+use Rattle.checkpoint.specs.Blocks.{IsHeld as IsHeldAt}
 use Rattle.running_tables.specs.Running.{Runs, passages_of, takings_of}
 use Rattle.recovery.specs.declared.parts.Parts.{Parts}
 use Rattle.next_changes.specs.Next.{IsNext}
 use Rattle.crash_laws.specs.Standing.{IsHeld}
-use Rattle.voice_store.specs.Filled.{IsFilled}
+use Rattle.voice_store.specs.Filled.{HaveBytes}
 use Rattle.voice_store.specs.Playing.{IsPlaying}
 use Rattle.voice_store.specs.declared.inside.Doubted.{Doubted}
 use Rattle.voice_store.specs.declared.inside.Inside.{Inside}
@@ -101,8 +103,8 @@ pub record Upright (first : State) (t0 : ℕ) (disk : Told) (s : Inside) (fill :
   pub seated : IsSeated s.journal (last_of first s)
   pub acks : AcksRise t0 s.history.items disk.calls
   pub held : IsTrue disk.honest → IsHeld first (tapes_of s) t0 s.journal disk b after s.history.items
-  -- and each block that has an address has its bytes there, whoever uses it: a live rope, a held passage, or a change in doubt
-  pub bytes : IsTrue disk.honest → IsFilled fill s.journal.shape disk.bytes s.parts.blocks.holders
+  -- and each block that has an address has its bytes there, whoever uses it: a live rope, a held passage, a change in doubt, or an open recording
+  pub bytes : IsTrue disk.honest → HaveBytes fill s.journal.shape disk.bytes s.parts.blocks.holders (last_of first s)
 
 -- nothing is in doubt, and the tables show the state
 pub record IsSure (held : List (List Piece)) (takings : List ℕ) (s : Inside) (b after : Rebuilt) (last : State) : Type 0 where
@@ -115,9 +117,10 @@ pub record IsSure (held : List (List Piece)) (takings : List ℕ) (s : Inside) (
 abbrev pub in_form : ℕ → Parts → Parts
 in_form form parts = record parts { form = form }
 
--- once what is in doubt has landed, and is done, the tables show the state, whatever passages are held then
+-- once what is in doubt has landed, and is done, the tables show the state, whatever passages are held then, and what has an address has it then already
 pub record Lands (fill : Spot → Tagged) (journal : JournalValue) (doubted : Doubted) (b after : Rebuilt) (last : State) (c : Change) (doubt : Doubt) : Type 0 where
   pub tables : (held : List (List Piece)) (takings : List ℕ) (parts : Parts) → Runs held [] takings parts (acted b c) → Runs held [] takings (in_form doubted.form parts) after
+  pub places : (holders : Holders) → Every (IsHeldAt holders) (acted b c).places → Every (IsHeldAt holders) after.places
   pub fills : Fills fill after (landed last)
   pub seated : IsSeated (record journal { seat = landed_seat journal.seat doubt }) (landed last)
   pub valid : IsState (landed last)
@@ -137,9 +140,9 @@ pub record IsUnsure (fill : Spot → Tagged) (held : List (List Piece)) (takings
   pub brings_it : Brings fill b change last pending.effect
   pub lands : Lands fill s.journal doubted b after last change doubt
 
--- the lanes of the program show those of a state
+-- the lanes and the open recordings of the program show those of a state
 abbrev pub Plays : (Spot → Tagged) → Bool → Inside → State → Type 0
-Plays fill honest s last = IsPlaying fill honest s.journal.shape.block s.parts.ropes s.lanes s.made last
+Plays fill honest s last = IsPlaying fill honest s.journal.shape.block s.parts.ropes s.lanes s.made s.recordings last
 
 -- what a store keeps, between its calls, that was opened at moment t0
 pub record Stood (first : State) (t0 : ℕ) (disk : Told) (s : Inside) : Type 0 where

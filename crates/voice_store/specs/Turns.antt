@@ -2,7 +2,7 @@
 --     next_pairs block job      the block of each sample that comes next in a job's passage
 --     blocks_of_next block job, unread_of_next block resident job      how many blocks the next window of a job has, none where there is no job;  how many of them no frame holds
 --     window_blocks s lane back, unread_blocks s lane back resident      how many blocks the window has that a Feed asks for;  how many of them no frame holds
---     calls_beside s call      the device calls of a call that makes no change
+--     calls_beside s tapes call      the device calls of a call that makes no change
 --     entry_calls s tapes call      how many device calls lie, at most, between the entry before that of a call and that one
 --     ShortTurns s tapes low history high      each entry's moment lies at most so many device calls behind the one before it, that of the first one behind low; and none were made after the last one
 --     AddsLandingAt ack old new      no entry came, or that of a landing at this moment
@@ -21,8 +21,8 @@ use Rattle.voice_model.specs.declared.calls.Reply.{Reply}
 use Rattle.voice_model.specs.declared.calls.Entry.{Entry}
 use Rattle.playing.specs.declared.blocks.Block.{Block}
 use Rattle.playing.specs.Frames.{is_resident}
-use Rattle.voice_store.specs.Facts.{entry_of, landing_at, most_reads}
-use Rattle.voice_store.specs.DeviceCalls.{change_calls}
+use Rattle.voice_store.specs.Facts.{entry_of, landing_at}
+use Rattle.voice_store.specs.DeviceCalls.{change_calls, other_calls}
 
 -- the block of each sample that comes next in a job's passage
 abbrev pub next_pairs : ℕ → Job → List BlockPair
@@ -47,14 +47,14 @@ unfoldable pub unread_blocks : State → ℕ → Option ℕ → List (Option Blo
 unread_blocks s lane back resident = unread_of_next s.shape.block resident (first_job (lane_at (brought_back s lane back) lane).jobs)
 
 -- a landing takes two, and a Feed one for each block of its window
-abbrev pub calls_beside : State → Call → ℕ
-calls_beside s calls.Landed = 2
-calls_beside s (calls.Feed lane back) = window_blocks s lane back
-calls_beside s call = most_reads s call
+abbrev pub calls_beside : State → List (List ℕ) → Call → ℕ
+calls_beside s tapes calls.Landed = 2
+calls_beside s tapes (calls.Feed lane back) = window_blocks s lane back
+calls_beside s tapes call = other_calls s tapes call
 
 -- where a change is in doubt still, its landing failed
 unfoldable pub entry_calls : State → List (List ℕ) → Call → ℕ
-entry_calls s tapes call = cond (is_changing call) (cond (is_some s.doubt) 2 (change_calls s tapes call)) (calls_beside s call)
+entry_calls s tapes call = cond (is_changing call) (cond (is_some s.doubt) 2 (change_calls s tapes call)) (calls_beside s tapes call)
 
 -- each entry's moment lies at most so many device calls behind the one before it, and none were made after the last one
 abbrev pub ShortTurns : State → List (List ℕ) → ℕ → List Entry → ℕ → Type 0

@@ -20,6 +20,7 @@ ghost use Rattle.voice_store.specs.Facts.{Goes, IsFault, Stays, entry_of};
 ghost use Rattle.voice_store.specs.Residing.{KeepsUsed};
 
 use crate::committing::Plan;
+use crate::going::Going;
 use crate::inside::Inside;
 use crate::replies::twice;
 use crate::ways::{LAST_EPOCH, Way};
@@ -123,10 +124,14 @@ impl Inside {
             Way::Full(most, left) => {
                 Ok(self.refuse(disk, caller, call, Why::JournalFull(most, left)))
             }
-            Way::Append => Ok(self.commit(disk, caller, call, replies, next, Plan::Append)),
+            Way::Append => {
+                let going = Going::Change(next);
+                Ok(self.commit(disk, caller, call, replies, going, Plan::Append))
+            }
             Way::Switch => {
-                let plan = self.plan(&next, Way::Switch)?;
-                Ok(self.commit(disk, caller, call, replies, next, plan))
+                let going = Going::Change(next);
+                let plan = self.plan(&going, Way::Switch)?;
+                Ok(self.commit(disk, caller, call, replies, going, plan))
             }
         }
     }

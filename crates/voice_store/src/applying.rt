@@ -22,7 +22,7 @@ use crate::inside::Inside;
 use crate::jobs::Passage;
 use voice_model::{Call, Class, Key, Reply, Why};
 use voice_outside::Disk;
-use voice_units::{Lane, NoMemory, RopeId};
+use voice_units::{Lane, NoMemory, RopeId, Take};
 
 /// What a call asks of the tables, of the lanes or of the disk, or that it is of a kind that makes changes.
 enum Asks {
@@ -31,6 +31,8 @@ enum Asks {
     Sound(Sound, RopeId),
     Job(Lane, RopeId, u32, u32),
     Stop(Lane),
+    Begin(Lane),
+    Add(Lane, Take),
     Change,
 }
 
@@ -46,6 +48,8 @@ fn asked_of(call: &Call) -> Asks
         Call::Levels(rope) => Asks::Sound(Sound::Peaks, *rope),
         Call::Play(lane, rope, start, len) => Asks::Job(*lane, *rope, *start, *len),
         Call::Stop(lane) => Asks::Stop(*lane),
+        Call::Begin(lane) => Asks::Begin(*lane),
+        Call::Add(lane, take) => Asks::Add(*lane, *take),
         _ => Asks::Change,
     }
 }
@@ -111,6 +115,7 @@ impl Inside {
     {
         match call {
             Call::Record(take) => self.record(disk, caller, take),
+            Call::End(lane) => self.end(disk, caller, lane),
             Call::Concat(ropes) => self.edit(disk, caller, Call::Concat(ropes)),
             Call::Sub(rope, start, len) => self.edit(disk, caller, Call::Sub(rope, start, len)),
             Call::Replace(rope, start, len, with) => {
@@ -200,6 +205,8 @@ impl Inside {
                 )
             }
             Asks::Stop(lane) => Ok(self.stop(disk, caller, lane)),
+            Asks::Begin(lane) => self.begin(disk, caller, lane),
+            Asks::Add(lane, take) => self.add(disk, caller, lane, take),
             Asks::Change => self.land_and_change(disk, caller, call),
         }
     }

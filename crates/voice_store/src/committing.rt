@@ -11,21 +11,24 @@ ghost use Rattle.voice_model.specs.declared.Change.{Change};
 ghost use Rattle.running_tables.specs.Running.{Runs};
 ghost use Rattle.checkpoint.specs.Compact.{ShowsUsed};
 ghost use Rattle.next_ropes.specs.Addresses.{KeepsAddresses};
-ghost use Rattle.next_changes.specs.Next.{IsNext, payload_of};
+ghost use Rattle.next_changes.specs.Next.{IsNext};
+ghost use Rattle.voice_blocks.specs.Holders.{Holders};
 ghost use Rattle.playing.specs.Frames.{HoldsBytes};
 ghost use Rattle.lane_calls.specs.Answers.{HaveForgotten};
 ghost use Rattle.voice_store.specs.Stood.{Stood, last_of};
 ghost use Rattle.voice_store.specs.Ways.{FitsBehind, FitsOther};
-ghost use Rattle.voice_store.specs.Trying.{IsBaseOf, Trying, IsReadyIn, IsPlan, CanGo};
+ghost use Rattle.voice_store.specs.Trying.{IsBaseOf, Trying, IsPlan, CanGo};
+ghost use Rattle.voice_store.specs.Going.{payload_in, counted_as, IsGoing, IsGoingIn, IsCounted, closed_in};
 ghost use Rattle.voice_store.specs.DeviceCalls.{plan_calls};
 ghost use Rattle.voice_store.specs.Facts.{Goes, IsFault, entry_of};
 ghost use Rattle.voice_store.specs.Residing.{KeepsUsed};
 
 use crate::entering::enter;
+use crate::going::{Going, count, give_up, tables_after};
 use crate::inside::{Doubted, Inside};
 use checkpoint::compact_parts;
 use crash_laws::laws::foundations;
-use next_changes::{NextChange, give_back, parts_after, perform};
+use next_changes::perform;
 use recovery::Parts;
 use std::alloc::Global;
 use voice_journal::{Fault, Payloads};
@@ -64,27 +67,29 @@ fn base_of(alloc: Global, shape: &Shape, parts: &Parts) -> Result<Base, NoMemory
 
 impl Inside {
     /// The base that a switch writes as this change comes.
-    pub(crate) fn base_after(&self, next: &NextChange) -> Result<Base, NoMemory>
-        requires { IsReadyIn self.now next.now }
-        ensures { (held : List (List Piece)) (takings : List ℕ) (b : Rebuilt) (c : Change) → IsNext held takings self.now.parts b next.now c → b.shape ≡ self.now.journal.shape → IfOk result (IsBaseOf self.now.journal.shape (acted b c)) }
+    pub(crate) fn base_after(&self, going: &Going) -> Result<Base, NoMemory>
+        requires { IsGoingIn self.now.journal.shape self.now.parts going.now }
+        ensures { (held : List (List Piece)) (takings more : List ℕ) (b : Rebuilt) (c : Change) → IsGoing held takings more self.now.parts b going.now c → b.shape ≡ self.now.journal.shape → IfOk result (IsBaseOf self.now.journal.shape (acted b c)) }
     {
         let shape = self.journal.shape();
-        let after = parts_after(self.alloc, &self.parts, &shape, next)?;
+        let after = tables_after(self.alloc, &self.parts, &shape, going)?;
         base_of(self.alloc, &shape, &after)
     }
 
     // The change is done, frames forget the blocks that nothing uses any longer, and the call is entered.
-    fn done<D: Disk>(&mut self, disk: &D, caller: u16, call: Call, reply: Reply, next: NextChange)
-        requires ready { IsReadyIn self.old next }
+    fn done<D: Disk>(&mut self, disk: &D, caller: u16, call: Call, reply: Reply, going: Going)
+        requires ready { IsGoingIn self.old.journal.shape self.old.parts going }
         requires room { vec_len self.old.history < vec_capacity self.old.history }
-        ensures tables { (held : List (List Piece)) (takings : List ℕ) (b : Rebuilt) (c : Change) → IsNext held takings self.old.parts b next c → b.shape ≡ self.old.journal.shape → Runs held [] takings self.new.parts (acted b c) }
-        ensures kept { KeepsAddresses self.old.parts.blocks.holders self.new.parts.blocks.holders }
+        ensures tables { (held : List (List Piece)) (takings more : List ℕ) (b : Rebuilt) (c : Change) → IsGoing held takings more self.old.parts b going c → b.shape ≡ self.old.journal.shape → Runs held [] more self.new.parts (acted b c) }
+        ensures kept { (counted : Holders) × IsCounted going self.old.parts.blocks.holders counted × KeepsAddresses counted self.new.parts.blocks.holders }
+        ensures recordings { self.new.recordings ≡ closed_in going self.old.recordings }
         ensures items { self.new.history.items ≡ self.old.history.items ++ entry_of caller call reply (D.told disk.now).calls ∷ [] }
         ensures lanes { HaveForgotten self.new.parts.ropes self.old.lanes self.new.lanes }
         ensures bytes { (bytes : ℕ → ℕ → List ℕ) → HoldsBytes bytes self.old.lanes.frames → HoldsBytes bytes self.new.lanes.frames }
-        ensures rest { self.new ≡ record self.old { parts = self.new.parts; lanes = self.new.lanes; history = self.new.history } }
+        ensures rest { self.new ≡ record self.old { parts = self.new.parts; lanes = self.new.lanes; recordings = self.new.recordings; history = self.new.history } }
     {
         let shape = self.journal.shape();
+        let next = count(&mut self.parts, &mut self.recordings, going);
         perform(&mut self.parts, &shape, next);
         self.lanes.forget_unused(&self.parts.ropes);
         enter(&mut self.history, caller, call, reply, disk.calls());
@@ -96,17 +101,17 @@ impl Inside {
         disk: &D,
         caller: u16,
         call: Call,
-        next: NextChange,
+        going: Going,
     ) -> Reply
-        requires ready { IsReadyIn self.old next }
+        requires ready { IsGoingIn self.old.journal.shape self.old.parts going }
         requires room { vec_len self.old.history < vec_capacity self.old.history }
-        ensures tables { (held : List (List Piece)) (takings : List ℕ) (b : Rebuilt) (c : Change) → IsNext held takings self.old.parts b next c → Runs held [] takings self.new.parts b }
+        ensures tables { (held : List (List Piece)) (takings more : List ℕ) (b : Rebuilt) (c : Change) → IsGoing held takings more self.old.parts b going c → Runs held [] takings self.new.parts b }
         ensures kept { KeepsAddresses self.old.parts.blocks.holders self.new.parts.blocks.holders }
         ensures items { self.new.history.items ≡ self.old.history.items ++ entry_of caller call (Reply.No Why.DiskFault) (D.told disk.now).calls ∷ [] }
         ensures rest { self.new ≡ record self.old { parts = self.new.parts; history = self.new.history } }
         ensures reply { result ≡ Reply.No Why.DiskFault }
     {
-        give_back(&mut self.parts, next);
+        give_up(&mut self.parts, going);
         enter(
             &mut self.history,
             caller,
@@ -117,14 +122,20 @@ impl Inside {
         Reply::No(Why::DiskFault)
     }
 
-    // It is in doubt whether the change is done: it waits, and the call is entered.
-    fn wait<D: Disk>(&mut self, disk: &D, caller: u16, call: Call, doubted: Doubted) -> Reply
+    // It is in doubt whether the change is done: it waits, with the form of the area once it has landed, and the call is entered. A recording that ends is closed.
+    fn wait<D: Disk>(&mut self, disk: &D, caller: u16, call: Call, going: Going, form: u8) -> Reply
+        requires ready { IsGoingIn self.old.journal.shape self.old.parts going }
         requires room { vec_len self.old.history < vec_capacity self.old.history }
         ensures items { self.new.history.items ≡ self.old.history.items ++ entry_of caller call (Reply.No Why.InDoubt) (D.told disk.now).calls ∷ [] }
-        ensures rest { self.new ≡ record self.old { doubt = Some doubted; history = self.new.history } }
+        ensures next { (held : List (List Piece)) (takings more : List ℕ) (b : Rebuilt) (c : Change) → IsGoing held takings more self.old.parts b going c → IsNext held more self.new.parts b (counted_as going) c }
+        ensures addresses { IsCounted going self.old.parts.blocks.holders self.new.parts.blocks.holders }
+        ensures tables { self.new.parts ≡ record self.old.parts { blocks = self.new.parts.blocks } }
+        ensures recordings { self.new.recordings ≡ closed_in going self.old.recordings }
+        ensures rest { self.new ≡ record self.old { parts = self.new.parts; recordings = self.new.recordings; doubt = Some (record { next = counted_as going; form = form }); history = self.new.history } }
         ensures reply { result ≡ Reply.No Why.InDoubt }
     {
-        self.doubt = Some(doubted);
+        let next = count(&mut self.parts, &mut self.recordings, going);
+        self.doubt = Some(Doubted { next, form });
         enter(
             &mut self.history,
             caller,
@@ -142,14 +153,14 @@ impl Inside {
         caller: u16,
         call: Call,
         replies: (Reply, Reply),
-        next: NextChange,
+        going: Going,
     ) -> Reply
         requires size { extent self.old.journal.shape ≤ (D.told disk.old).size }
-        requires fits { self.old.journal.seat.gate + 5 + length (payload_of next) < self.old.journal.shape.area }
+        requires fits { self.old.journal.seat.gate + 5 + length (payload_in going) < self.old.journal.shape.area }
         requires twice { replies.1 ≡ replies.0 }
         requires plain { ¬ IsFault replies.1 }
         requires sure { self.old.journal.doubt ≡ None }
-        requires ready { IsReadyIn self.old next }
+        requires ready { IsGoingIn self.old.journal.shape self.old.parts going }
         requires room { vec_len self.old.history < vec_capacity self.old.history }
         ensures goes { Goes 4 (D.told disk.old) (D.told disk.new) }
         ensures cause { IsFault result → HasRisen (D.told disk.old).faults (D.told disk.new).faults }
@@ -157,18 +168,18 @@ impl Inside {
         ensures tapes { self.new.tapes ≡ self.old.tapes }
         ensures pool { self.new.lanes.frames.keeper.pool ≡ self.old.lanes.frames.keeper.pool }
         ensures frames { KeepsUsed self.old self.new }
-        ensures stood { (first : State) (t0 : ℕ) (b : Rebuilt) (c : Change) (effect : Effect Tagged) → Trying first t0 (D.told disk.old) self.old b next c effect caller call replies.0 → FitsBehind (last_of first self.old) effect → Stood first t0 (D.told disk.new) self.new }
+        ensures stood { (first : State) (t0 : ℕ) (b : Rebuilt) (c : Change) (effect : Effect Tagged) → Trying first t0 (D.told disk.old) self.old b going c effect caller call replies.0 → FitsBehind (last_of first self.old) effect → Stood first t0 (D.told disk.new) self.new }
     {
         foundations();
-        match self.journal.append(disk, next.payload()) {
+        match self.journal.append(disk, going.payload()) {
             Ok(()) => {
-                self.done(disk, caller, call, replies.0, next);
+                self.done(disk, caller, call, replies.0, going);
                 replies.1
             }
-            Err(Fault::Before) => self.failed(disk, caller, call, next),
+            Err(Fault::Before) => self.failed(disk, caller, call, going),
             Err(Fault::Doubt) => {
                 let form = self.parts.form;
-                self.wait(disk, caller, call, Doubted { next, form })
+                self.wait(disk, caller, call, going, form)
             }
         }
     }
@@ -180,7 +191,7 @@ impl Inside {
         caller: u16,
         call: Call,
         replies: (Reply, Reply),
-        next: NextChange,
+        going: Going,
         base: &Base,
     ) -> Reply
         requires size { extent self.old.journal.shape ≤ (D.told disk.old).size }
@@ -189,7 +200,7 @@ impl Inside {
         requires plain { ¬ IsFault replies.1 }
         requires epoch { self.old.journal.seat.epoch < 2 ^ 48 }
         requires sure { self.old.journal.doubt ≡ None }
-        requires ready { IsReadyIn self.old next }
+        requires ready { IsGoingIn self.old.journal.shape self.old.parts going }
         requires room { vec_len self.old.history < vec_capacity self.old.history }
         ensures goes { Goes 6 (D.told disk.old) (D.told disk.new) }
         ensures cause { IsFault result → HasRisen (D.told disk.old).faults (D.told disk.new).faults }
@@ -197,25 +208,17 @@ impl Inside {
         ensures tapes { self.new.tapes ≡ self.old.tapes }
         ensures pool { self.new.lanes.frames.keeper.pool ≡ self.old.lanes.frames.keeper.pool }
         ensures frames { KeepsUsed self.old self.new }
-        ensures stood { (first : State) (t0 : ℕ) (b : Rebuilt) (c : Change) (effect : Effect Tagged) → Trying first t0 (D.told disk.old) self.old b next c effect caller call replies.0 → FitsOther (last_of first self.old) effect → IsBaseOf self.old.journal.shape (acted b c) base.now → Stood first t0 (D.told disk.new) self.new }
+        ensures stood { (first : State) (t0 : ℕ) (b : Rebuilt) (c : Change) (effect : Effect Tagged) → Trying first t0 (D.told disk.old) self.old b going c effect caller call replies.0 → FitsOther (last_of first self.old) effect → IsBaseOf self.old.journal.shape (acted b c) base.now → Stood first t0 (D.told disk.new) self.new }
     {
         foundations();
         match self.journal.switch(disk, &base.payloads) {
             Ok(()) => {
-                self.done(disk, caller, call, replies.0, next);
+                self.done(disk, caller, call, replies.0, going);
                 self.parts.form = base.form;
                 replies.1
             }
-            Err(Fault::Before) => self.failed(disk, caller, call, next),
-            Err(Fault::Doubt) => self.wait(
-                disk,
-                caller,
-                call,
-                Doubted {
-                    next,
-                    form: base.form,
-                },
-            ),
+            Err(Fault::Before) => self.failed(disk, caller, call, going),
+            Err(Fault::Doubt) => self.wait(disk, caller, call, going, base.form),
         }
     }
 
@@ -226,15 +229,15 @@ impl Inside {
         caller: u16,
         call: Call,
         replies: (Reply, Reply),
-        next: NextChange,
+        going: Going,
         plan: Plan,
     ) -> Reply
         requires size { extent self.old.journal.shape ≤ (D.told disk.old).size }
-        requires can { CanGo self.old.journal next plan }
+        requires can { CanGo self.old.journal going plan }
         requires twice { replies.1 ≡ replies.0 }
         requires plain { ¬ IsFault replies.1 }
         requires sure { self.old.journal.doubt ≡ None }
-        requires ready { IsReadyIn self.old next }
+        requires ready { IsGoingIn self.old.journal.shape self.old.parts going }
         requires room { vec_len self.old.history < vec_capacity self.old.history }
         ensures goes { Goes 6 (D.told disk.old) (D.told disk.new) }
         ensures calls { (D.told disk.new).calls ≤ (D.told disk.old).calls + plan_calls plan }
@@ -243,11 +246,11 @@ impl Inside {
         ensures tapes { self.new.tapes ≡ self.old.tapes }
         ensures pool { self.new.lanes.frames.keeper.pool ≡ self.old.lanes.frames.keeper.pool }
         ensures frames { KeepsUsed self.old self.new }
-        ensures stood { (first : State) (t0 : ℕ) (b : Rebuilt) (c : Change) (effect : Effect Tagged) → Trying first t0 (D.told disk.old) self.old b next c effect caller call replies.0 → IsPlan self.old.journal (last_of first self.old) effect (acted b c) plan → Stood first t0 (D.told disk.new) self.new }
+        ensures stood { (first : State) (t0 : ℕ) (b : Rebuilt) (c : Change) (effect : Effect Tagged) → Trying first t0 (D.told disk.old) self.old b going c effect caller call replies.0 → IsPlan self.old.journal (last_of first self.old) effect (acted b c) plan → Stood first t0 (D.told disk.new) self.new }
     {
         match plan {
-            Plan::Append => self.append(disk, caller, call, replies, next),
-            Plan::Switch(base) => self.switch(disk, caller, call, replies, next, &base),
+            Plan::Append => self.append(disk, caller, call, replies, going),
+            Plan::Switch(base) => self.switch(disk, caller, call, replies, going, &base),
         }
     }
 }

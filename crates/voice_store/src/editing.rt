@@ -11,22 +11,23 @@ ghost use Rattle.voice_model.specs.Valid.{IsState};
 ghost use Rattle.voice_model.specs.Replay.{Rebuilt, acted};
 ghost use Rattle.voice_model.specs.declared.Change.{Change};
 ghost use Rattle.edits.specs.Shown.{ShowsState, IsMade};
-ghost use Rattle.next_changes.specs.Next.{IsNext};
 ghost use Rattle.voice_store.specs.Stood.{Stood, last_of, tapes_of};
 ghost use Rattle.voice_store.specs.Ways.{IsWay};
-ghost use Rattle.voice_store.specs.Trying.{IsPlan, IsReadyIn};
+ghost use Rattle.voice_store.specs.Trying.{IsPlan};
+ghost use Rattle.voice_store.specs.Going.{IsGoing, IsGoingIn};
 ghost use Rattle.voice_store.specs.DeviceCalls.{change_calls};
 ghost use Rattle.voice_store.specs.Facts.{Goes, HasRopes, IsFault, entry_of, is_edit};
 ghost use Rattle.voice_store.specs.Keeping.{MakesRope, HasWay};
 ghost use Rattle.voice_store.specs.Residing.{KeepsUsed};
 
 use crate::committing::Plan;
+use crate::going::{Going, give_up};
 use crate::inside::Inside;
 use crate::ways::Way;
 use checkpoint::parts_size;
 use crash_laws::laws::{disks_are_honest, foundations};
 use edits::{Made, concat, replace, sub};
-use next_changes::{NextChange, give_back};
+use next_changes::NextChange;
 use next_ropes::{NextRope, ready_edit};
 use rope_algebra::Pieces;
 use voice_model::{Call, Reply, Why};
@@ -52,14 +53,14 @@ pub(crate) fn replies_of(next: &NextRope) -> (Reply, Reply)
 
 impl Inside {
     /// How a change that is ready gets into the journal, where that is not full.
-    pub(crate) fn plan(&self, next: &NextChange, way: Way) -> Result<Plan, NoMemory>
-        requires { IsReadyIn self.now next.now }
-        ensures { (held : List (List Piece)) (takings : List ℕ) (b : Rebuilt) (c : Change) (s : State) (effect : Effect Tagged) → IsNext held takings self.now.parts b next.now c → b.shape ≡ self.now.journal.shape → IsWay s effect way → is_journal_full s effect ≡ false → IfOk result (IsPlan self.now.journal s effect (acted b c)) }
+    pub(crate) fn plan(&self, going: &Going, way: Way) -> Result<Plan, NoMemory>
+        requires { IsGoingIn self.now.journal.shape self.now.parts going.now }
+        ensures { (held : List (List Piece)) (takings more : List ℕ) (b : Rebuilt) (c : Change) (s : State) (effect : Effect Tagged) → IsGoing held takings more self.now.parts b going.now c → b.shape ≡ self.now.journal.shape → IsWay s effect way → is_journal_full s effect ≡ false → IfOk result (IsPlan self.now.journal s effect (acted b c)) }
     {
         let Way::Switch = way else {
             return Ok(Plan::Append);
         };
-        let base = self.base_after(next)?;
+        let base = self.base_after(going)?;
         Ok(Plan::Switch(base))
     }
 
@@ -106,12 +107,12 @@ impl Inside {
         let _most = self.journal.epoch();
         let rope = ready_edit(self.alloc, &mut self.parts, pieces)?;
         let replies = replies_of(&rope);
-        let next = NextChange::Rope(rope);
-        let Ok(plan) = self.plan(&next, way) else {
-            give_back(&mut self.parts, next);
+        let going = Going::Change(NextChange::Rope(rope));
+        let Ok(plan) = self.plan(&going, way) else {
+            give_up(&mut self.parts, going);
             return Err(NoMemory);
         };
-        Ok(self.commit(disk, caller, call, replies, next, plan))
+        Ok(self.commit(disk, caller, call, replies, going, plan))
     }
 
     // Keeps a rope of these pieces, unless the journal has no room.

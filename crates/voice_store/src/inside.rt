@@ -2,6 +2,7 @@
 
 use next_changes::NextChange;
 use playing::Lanes;
+use recording_calls::Recordings;
 use recovery::Parts;
 use std::alloc::Global;
 use std::sync::Arc;
@@ -15,7 +16,7 @@ pub struct Doubted {
     pub form: u8,
 }
 
-/// What a store keeps besides its disk: the journal, the tables, the lanes with the number of jobs made so far, the change in doubt, and the history.
+/// What a store keeps besides its disk: the journal, the tables, the lanes with the number of jobs made so far, their open recordings, the change in doubt, and the history.
 #[derive(Drop)]
 pub struct Inside {
     pub alloc: Global,
@@ -24,6 +25,7 @@ pub struct Inside {
     pub parts: Parts,
     pub lanes: Lanes,
     pub made: u64,
+    pub recordings: Recordings,
     pub doubt: Option<Doubted>,
     pub history: Vec<Entry>,
 }

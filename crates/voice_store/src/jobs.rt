@@ -56,12 +56,13 @@ impl Inside {
         } = passage;
         let call = Call::Play(lane, rope, start, len);
         let shape = self.journal.shape();
+        let recording = self.recordings.is_open(lane);
         let played = play(
             &mut self.parts,
             &mut self.lanes,
             &shape,
             self.made,
-            false,
+            recording,
             lane,
             rope,
             start,

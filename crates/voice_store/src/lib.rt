@@ -1,12 +1,15 @@
 //! The store: one call at a time over a disk, the history of all calls, and what a crash may leave of it.
 #![tactic(auto)]
 
+mod adding;
 mod altering;
 mod applying;
 mod committing;
 mod editing;
+mod ending;
 mod entering;
 mod feeding;
+mod going;
 mod hearing;
 mod inside;
 mod jobs;

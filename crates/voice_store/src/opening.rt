@@ -15,6 +15,7 @@ ghost use Rattle.voice_store.specs.Facts.{Goes};
 use crate::inside::Inside;
 use crash_laws::laws::foundations;
 use playing::Lanes;
+use recording_calls::Recordings;
 use recovery::{Parts, ReplayError, replay};
 use std::alloc::Global;
 use std::sync::Arc;
@@ -73,6 +74,9 @@ impl Inside {
         let Ok(lanes) = Lanes::new(alloc, shape.lanes, shape.block) else {
             return Err(OpenError::NoMemory);
         };
+        let Ok(recordings) = Recordings::new(alloc, shape.lanes) else {
+            return Err(OpenError::NoMemory);
+        };
         Ok(Inside {
             alloc,
             tapes,
@@ -80,6 +84,7 @@ impl Inside {
             parts,
             lanes,
             made: 0,
+            recordings,
             doubt: None,
             history: Vec::new(alloc),
         })

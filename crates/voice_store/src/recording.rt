@@ -24,11 +24,12 @@ ghost use Rattle.voice_store.specs.Residing.{KeepsUsed};
 
 use crate::committing::Plan;
 use crate::editing::{replies_of, rope_size};
+use crate::going::{Going, give_up};
 use crate::inside::Inside;
 use crate::ways::Way;
 use checkpoint::parts_size;
 use crash_laws::laws::{disks_are_honest, foundations};
-use next_changes::{NextChange, give_back};
+use next_changes::NextChange;
 use next_ropes::{NextRope, ready_recording};
 use recording_writer::write_samples;
 use voice_model::{Call, Reply, Why};
@@ -42,7 +43,7 @@ const LONGEST: u32 = 1 << 30;
 const LAST_ROPE: u64 = 1 << 48;
 
 // How many blocks so many samples take.
-fn blocks_needed(block: u32, len: u32) -> u32
+pub(crate) fn blocks_needed(block: u32, len: u32) -> u32
     requires least { 1 ≤ block }
     requires most { len ≤ 2 ^ 30 }
     requires block_limit { block ≤ 8192 }
@@ -52,14 +53,14 @@ fn blocks_needed(block: u32, len: u32) -> u32
 }
 
 // The bytes that an address takes in a record.
-fn address_width(form: u8) -> u64
+pub(crate) fn address_width(form: u8) -> u64
     ensures { result ≡ sizes.address_size form }
 {
     if form == 2 { 4 } else { 2 }
 }
 
 // What a recording of so many samples adds to a base: its rope, and its file with the blocks, where it has any.
-fn growth(form: u8, block: u32, len: u32) -> u64
+pub(crate) fn growth(form: u8, block: u32, len: u32) -> u64
     requires least { 1 ≤ block }
     requires most { len ≤ 2 ^ 30 }
     requires block_limit { block ≤ 8192 }
@@ -121,34 +122,34 @@ impl Inside {
         disk: &mut D,
         caller: u16,
         take: Take,
-        next: NextChange,
+        going: Going,
         plan: Plan,
         last: &mut [u8],
     ) -> Reply
-        requires holds { (rope : RopeValue) × (next ≡ NextChange.Rope rope) × (first : State) × (t0 : ℕ) × (h : HoldsRecording first t0 (D.told disk.old) self.old take rope) × IsPlan self.old.journal (last_of first self.old) (recorded_by (last_of first self.old) (tapes_of self.old) take) (acted h.makes.stood.b (next_change h.makes.stood.b.form rope)) plan }
+        requires holds { (rope : RopeValue) × (going ≡ Going.Change (NextChange.Rope rope)) × (first : State) × (t0 : ℕ) × (h : HoldsRecording first t0 (D.told disk.old) self.old take rope) × IsPlan self.old.journal (last_of first self.old) (recorded_by (last_of first self.old) (tapes_of self.old) take) (acted h.makes.stood.b (next_change h.makes.stood.b.form rope)) plan }
         requires block { length last.old ≡ self.old.journal.shape.block }
         requires room { vec_len self.old.history < vec_capacity self.old.history }
         ensures goes { GoesOn (D.told disk.old) (D.told disk.new) }
-        ensures calls { (rope : RopeValue) → next ≡ NextChange.Rope rope → (first : State) (t0 : ℕ) (h : HoldsRecording first t0 (D.told disk.old) self.old take rope) → IsPlan self.old.journal (last_of first self.old) (recorded_by (last_of first self.old) (tapes_of self.old) take) (acted h.makes.stood.b (next_change h.makes.stood.b.form rope)) plan → (D.told disk.new).calls ≤ (D.told disk.old).calls + change_calls (last_of first self.old) (tapes_of self.old) (Call.Record take) }
+        ensures calls { (rope : RopeValue) → going ≡ Going.Change (NextChange.Rope rope) → (first : State) (t0 : ℕ) (h : HoldsRecording first t0 (D.told disk.old) self.old take rope) → IsPlan self.old.journal (last_of first self.old) (recorded_by (last_of first self.old) (tapes_of self.old) take) (acted h.makes.stood.b (next_change h.makes.stood.b.form rope)) plan → (D.told disk.new).calls ≤ (D.told disk.old).calls + change_calls (last_of first self.old) (tapes_of self.old) (Call.Record take) }
         ensures cause { IsFault result → HasRisen (D.told disk.old).faults (D.told disk.new).faults }
         ensures items { self.new.history.items ≡ self.old.history.items ++ entry_of caller (Call.Record take) result (D.told disk.new).calls ∷ [] }
         ensures tapes { self.new.tapes ≡ self.old.tapes }
         ensures pool { self.new.lanes.frames.keeper.pool ≡ self.old.lanes.frames.keeper.pool }
         ensures frames { KeepsUsed self.old self.new }
-        ensures stood { (rope : RopeValue) → next ≡ NextChange.Rope rope → (first : State) (t0 : ℕ) (h : HoldsRecording first t0 (D.told disk.old) self.old take rope) → IsPlan self.old.journal (last_of first self.old) (recorded_by (last_of first self.old) (tapes_of self.old) take) (acted h.makes.stood.b (next_change h.makes.stood.b.form rope)) plan → Stood first t0 (D.told disk.new) self.new }
+        ensures stood { (rope : RopeValue) → going ≡ Going.Change (NextChange.Rope rope) → (first : State) (t0 : ℕ) (h : HoldsRecording first t0 (D.told disk.old) self.old take rope) → IsPlan self.old.journal (last_of first self.old) (recorded_by (last_of first self.old) (tapes_of self.old) take) (acted h.makes.stood.b (next_change h.makes.stood.b.form rope)) plan → Stood first t0 (D.told disk.new) self.new }
     {
         foundations();
         let _most = self.journal.epoch();
-        let NextChange::Rope(rope) = next else {
+        let Going::Change(NextChange::Rope(rope)) = going else {
             unreachable!()
         };
         let replies = replies_of(&rope);
         let written = self.write_recording(disk, take, &rope, last);
-        let next = NextChange::Rope(rope);
+        let going = Going::Change(NextChange::Rope(rope));
         let Ok(()) = written else {
-            return self.failed(disk, caller, Call::Record(take), next);
+            return self.failed(disk, caller, Call::Record(take), going);
         };
-        self.commit(disk, caller, Call::Record(take), replies, next, plan)
+        self.commit(disk, caller, Call::Record(take), replies, going, plan)
     }
 
     // Keeps a recording, in this way.
@@ -175,12 +176,12 @@ impl Inside {
         let shape = self.journal.shape();
         let mut last = vec![in self.alloc; 0u8; shape.block as usize]?;
         let rope = ready_recording(self.alloc, &mut self.parts, &shape, take.len)?;
-        let next = NextChange::Rope(rope);
-        let Ok(plan) = self.plan(&next, way) else {
-            give_back(&mut self.parts, next);
+        let going = Going::Change(NextChange::Rope(rope));
+        let Ok(plan) = self.plan(&going, way) else {
+            give_up(&mut self.parts, going);
             return Err(NoMemory);
         };
-        Ok(self.write_and_commit(disk, caller, take, next, plan, &mut last))
+        Ok(self.write_and_commit(disk, caller, take, going, plan, &mut last))
     }
 
     // Records, where nothing refuses it but perhaps the journal.

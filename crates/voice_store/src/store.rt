@@ -276,14 +276,14 @@ impl<D: Disk> Store<D> {
         self.inside.journal.shape().lanes
     }
 
-    /// How many blocks nothing uses: no live rope, no held passage, and no change in doubt.
+    /// How many blocks nothing uses: no live rope, no held passage, no change in doubt, and no open recording.
     pub fn free(&self) -> u32
         ensures { (first : State) → Keeps D.told first self.now → result ≡ free (state_of first self.now) }
     {
         self.inside.parts.blocks.free()
     }
 
-    /// How many ropes are live, how many samples they have in all, and how many blocks are used: by live ropes, by held passages, and by a change in doubt. It takes no memory and makes no device call, and goes over the live ropes.
+    /// How many ropes are live, how many samples they have in all, and how many blocks are used: by live ropes, by held passages, by a change in doubt, and by open recordings. It takes no memory and makes no device call, and goes over the live ropes.
     pub fn tally(&self) -> Tally
         ensures ropes { (first : State) → Keeps D.told first self.now → result.ropes ≡ length (state_of first self.now).kept.ropes }
         ensures samples { (first : State) → Keeps D.told first self.now → result.samples ≡ samples_of (state_of first self.now).kept.ropes }

@@ -7,19 +7,19 @@ use Rattle.crash_laws.specs.Calls.{Does, Undoes, Doubts}
 use Rattle.crash_laws.specs.Standing.{IsLater}
 use Rattle.crash_laws.proofs.Commits.{appends_carry}
 use Rattle.crash_laws.proofs.Changing.{failures_carry}
-use Rattle.next_changes.specs.Next.{payload_of}
 use Rattle.voice_store.specs.declared.inside.Inside.{Inside}
 use Rattle.voice_store.specs.declared.inside.Doubted.{Doubted}
 use Rattle.voice_store.proofs.Appended.{appended_stood, append_waits, failed_stood}
 use Rattle.voice_store.proofs.Tried.{shape_tried}
-use Rattle.voice_store.proofs.Settled.{ready_again}
+use Rattle.voice_store.specs.Going.{payload_in, counted_as}
+use Rattle.voice_store.proofs.OnItsWay.{going_again}
 use Rattle.voice_store.proofs.inside.Inside.append.Goals as goal
 
 pub done-requires-clause-ready : goal.done-requires-clause-ready
 done-requires-clause-ready g c =
     λ _ _.
     let s = c.args.self.now in
-    ready_again s (record s { journal = c.append.new.self }) c.args.next refl (ap (λ (j : JournalValue). j.shape) c.in-Ok.ensures.ok_state) c.requires.ready
+    going_again s.journal.shape c.append.new.self.shape s.parts c.args.going (ap (λ (j : JournalValue). j.shape) c.in-Ok.ensures.ok_state) c.requires.ready
 
 pub returns-in-Ok-clause-stood : goal.returns-in-Ok-clause-stood
 returns-in-Ok-clause-stood g c =
@@ -39,16 +39,17 @@ returns-in-Ok-clause-stood g c =
     let rest = c.done.ensures.rest in
     let journal = c.in-Ok.ensures.ok_state in
     let on_journal : s'.journal ≡ c.append.new.self = ap (λ (x : Inside). x.journal) rest in
-    let payload : c.payload.result.now ≡ payload_of c.args.next = c.payload.ensures.bytes in
-    appended_stood first t0 old new s s' b c.args.next c' effect c.args.caller c.args.call c.args.replies.0 tr made.later made.size made.honest moments c.payload.result.now payload fits
+    let payload : c.payload.result.now ≡ payload_in c.args.going = c.payload.ensures in
+    appended_stood first t0 old new s s' b c.args.going c' effect c.args.caller c.args.call c.args.replies.0 tr made.later made.size made.honest moments c.payload.result.now payload fits
     (ap (λ (x : Inside). x.tapes) rest)
-    c.done.ensures.items c.append.ensures.bytes c.done.ensures.kept
+    c.done.ensures.items c.append.ensures.bytes c.done.ensures.kept.0 c.done.ensures.kept.1 c.done.ensures.kept.2
     (ap (λ (j : JournalValue). j.shape) (on_journal ∙ journal))
     (ap (λ (j : JournalValue). j.seat) (on_journal ∙ journal))
     (ap (λ (j : JournalValue). j.doubt) (on_journal ∙ journal) ∙ tr.in_journal)
     (ap (λ (x : Inside). x.doubt) rest ∙ tr.sure)
+    c.done.ensures.recordings
     (record { forgot = c.done.ensures.lanes; bytes = c.done.ensures.bytes; made = ap (λ (x : Inside). x.made) rest })
-    (c.done.ensures.tables tr.held tr.takings b c' tr.ready (shape_tried first t0 old s b c.args.next c' effect c.args.caller c.args.call c.args.replies.0 tr ∙ sym (ap (λ (j : JournalValue). j.shape) journal)))
+    (c.done.ensures.tables tr.held tr.takings tr.more b c' tr.ready (shape_tried first t0 old s b c.args.going c' effect c.args.caller c.args.call c.args.replies.0 tr ∙ sym (ap (λ (j : JournalValue). j.shape) journal)))
     (appends_carry c.foundations.ensures old new)
     (λ h. (subst (λ (j : JournalValue). Does (λ r. with_payload r c.payload.result.now) s.journal j old new) (sym on_journal) (c.in-Ok.ensures.ok h), c.append.ensures.crash h))
 
@@ -71,15 +72,16 @@ returns-in-Err-Before-clause-stood g c =
     let before : Err c.in-Err-Before.field-0 ≡ Err Fault.Before = ap Err c.in-Err-Before.field-0-is in
     let journal = c.in-Err-Before.ensures.before_state before in
     let on_journal : s'.journal ≡ c.append.new.self = ap (λ (x : Inside). x.journal) rest in
-    failed_stood first t0 old new s s' b c.args.next c' effect c.args.caller c.args.call c.args.replies.0 tr made.later made.size made.honest moments
+    failed_stood first t0 old new s s' b c.args.going c' effect c.args.caller c.args.call c.args.replies.0 tr made.later made.size made.honest moments
     (ap (λ (x : Inside). x.tapes) rest)
     c.failed.ensures.items c.append.ensures.bytes c.failed.ensures.kept
     (ap (λ (j : JournalValue). j.shape) (on_journal ∙ journal))
     (ap (λ (j : JournalValue). j.seat) (on_journal ∙ journal))
     (ap (λ (j : JournalValue). j.doubt) (on_journal ∙ journal) ∙ tr.in_journal)
     (ap (λ (x : Inside). x.doubt) rest ∙ tr.sure)
+    (ap (λ (x : Inside). x.recordings) rest)
     (record { lanes = ap (λ (x : Inside). x.lanes) rest; made = ap (λ (x : Inside). x.made) rest })
-    (c.failed.ensures.tables tr.held tr.takings b c' tr.ready)
+    (c.failed.ensures.tables tr.held tr.takings tr.more b c' tr.ready)
     (failures_carry c.foundations.ensures old new)
     (λ h. subst (λ (j : JournalValue). Undoes s.journal j old new) (sym on_journal) (λ r stands. c.in-Err-Before.ensures.before h r stands before))
 
@@ -102,9 +104,9 @@ returns-clause-stood g c =
     let doubt : Err c.in-Err-Doubt.field-0 ≡ Err Fault.Doubt = ap Err c.in-Err-Doubt.field-0-is in
     let journal = c.in-Err-Doubt.ensures.doubt_state doubt in
     let on_journal : s'.journal ≡ c.append.new.self = ap (λ (x : Inside). x.journal) rest in
-    let payload : c.payload.result.now ≡ payload_of c.args.next = c.payload.ensures.bytes in
-    let doubted : Doubted = record { next = c.args.next; form = s.parts.form } in
-    append_waits first t0 old new s s' b c.args.next c' effect c.args.caller c.args.call c.args.replies.0 tr made.later made.size made.honest moments c.payload.result.now payload fits
+    let payload : c.payload.result.now ≡ payload_in c.args.going = c.payload.ensures in
+    let doubted : Doubted = record { next = counted_as c.args.going; form = s.parts.form } in
+    append_waits first t0 old new s s' b c.args.going c' effect c.args.caller c.args.call c.args.replies.0 tr made.later made.size made.honest moments c.payload.result.now payload fits
     doubted refl refl
     (ap (λ (x : Inside). x.tapes) rest)
     c.wait.ensures.items c.append.ensures.bytes
@@ -112,7 +114,9 @@ returns-clause-stood g c =
     (ap (λ (j : JournalValue). j.seat) (on_journal ∙ journal))
     (ap (λ (j : JournalValue). j.doubt) (on_journal ∙ journal))
     (ap (λ (x : Inside). x.doubt) rest)
-    (ap (λ (x : Inside). x.parts) rest)
+    (c.wait.ensures.next tr.held tr.takings tr.more b c' tr.ready)
+    c.wait.ensures.addresses
+    c.wait.ensures.recordings
     (record { lanes = ap (λ (x : Inside). x.lanes) rest; made = ap (λ (x : Inside). x.made) rest })
     (appends_carry c.foundations.ensures old new)
     (λ h. (subst (λ (j : JournalValue). Doubts (λ r. with_payload r c.payload.result.now) s.journal j old new) (sym on_journal) (λ r stands. c.in-Err-Doubt.ensures.doubt h r stands doubt), c.append.ensures.crash h))

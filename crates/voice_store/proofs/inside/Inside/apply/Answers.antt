@@ -1,15 +1,18 @@
-use Rattle.std.proofs.Common.{ℕ, ◌+◌, ◌≤◌, List, inl, refl, ap, subst, ◌∙◌, arith}
+use Rattle.std.proofs.Common.{◌≡◌, ℕ, ◌+◌, ◌≤◌, List, inl, refl, ap, subst, ◌∙◌, arith}
 use Rattle.std.specs.Prelude.{Result, Ok, OnErr}
 use Rattle.voice_units.specs.declared.errors.NoMemory.{NoMemory}
 use Rattle.voice_model.specs.declared.calls.Call.TheVariants as calls
 use Rattle.voice_model.specs.declared.calls.Reply.{Reply}
 use Rattle.voice_store.specs.Hearing.{call_for}
-use Rattle.voice_store.proofs.Turns.{adds_at_once, adds_heard, items_from, adds_same}
+use Rattle.voice_store.proofs.Turns.{adds_added, adds_at_once, adds_heard, items_from, adds_same}
 use Rattle.voice_model.specs.State.{State}
 use Rattle.voice_store.specs.declared.inside.Inside.{Inside}
 use Rattle.voice_store.specs.Stood.{last_of, tapes_of}
 use Rattle.voice_store.specs.Facts.{most_reads}
-use Rattle.voice_store.specs.DeviceCalls.{landing_calls, most_calls}
+use Rattle.voice_model.specs.declared.calls.Call.{Call}
+use Rattle.voice_store.specs.Facts.{TakesAreIn}
+use Rattle.voice_store.specs.DeviceCalls.{add_calls, landing_calls, most_calls}
+use Rattle.voice_store.proofs.Counted.{added_within}
 use Rattle.voice_store.proofs.Behind.{fits_reserved}
 use Rattle.voice_store.proofs.Landed.{stood_reserved, on_error, none_made}
 use Rattle.voice_store.proofs.Heard.{last_reserved, looked_reads, heard_within, few_on_error}
@@ -216,3 +219,70 @@ returns-in-Change-clause-frames g c = λ first t0 stood.
     subst (λ (x : State). KeepsFrames (landed x) (last_of first s') s.lanes.frames.resident s'.lanes.frames.resident) (last_reserved first s t c.reserve.ensures.rest c.reserve.ensures.items)
     (subst (λ (y : Inside). KeepsFrames (landed (last_of first t)) (last_of first s') y.lanes.frames.resident s'.lanes.frames.resident) c.reserve.ensures.rest
     (c.land_and_change.ensures.frames first t0 (stood_reserved first t0 (g.D.Disk.told c.args.disk.now) s t c.reserve.ensures.rest c.reserve.ensures.items stood)))
+
+pub begin-requires-clause-stood : goal.begin-requires-clause-stood
+begin-requires-clause-stood g c κs within =
+    let stood = c.requires.stood in
+    (stood.0, stood.1, stood_reserved stood.0 stood.1 (g.D.Disk.told c.args.disk.now) c.args.self.now c.reserve.new.self c.reserve.ensures.rest c.reserve.ensures.items stood.2)
+
+pub returns-in-Begin-clause-few : goal.returns-in-Begin-clause-few
+returns-in-Begin-clause-few g c = λ first t0 stood. none_made (g.D.Disk.told c.args.disk.now).calls (landing_calls (last_of first c.args.self.now) + most_reads (last_of first c.args.self.now) c.args.call) c.begin.result
+
+pub returns-in-Begin-clause-stood : goal.returns-in-Begin-clause-stood
+returns-in-Begin-clause-stood g c = λ first t0 stood.
+    c.begin.ensures.stood first t0 (stood_reserved first t0 (g.D.Disk.told c.args.disk.now) c.args.self.now c.reserve.new.self c.reserve.ensures.rest c.reserve.ensures.items stood)
+
+pub returns-in-Begin-clause-turns : goal.returns-in-Begin-clause-turns
+returns-in-Begin-clause-turns g c = λ first t0 stood.
+    let s = c.args.self.now in
+    let now = (g.D.Disk.told c.args.disk.now).calls in
+    adds_at_once (last_of first s) (tapes_of s) now c.args.caller c.args.call s.history.items c.begin.new.self.history.items c.begin.result
+    (items_from c.args.caller c.args.call (calls.Begin c.in-Begin.lane) now s.history.items c.reserve.new.self.history.items c.begin.new.self.history.items c.begin.result
+    c.in-Begin.ensures c.reserve.ensures.items c.begin.ensures.items)
+
+pub returns-in-Begin-clause-frames : goal.returns-in-Begin-clause-frames
+returns-in-Begin-clause-frames g c = λ first t0 stood.
+    frames_reserved first t0 (g.D.Disk.told c.args.disk.now) (landed (last_of first c.args.self.now)) c.args.self.now c.reserve.new.self c.begin.new.self c.reserve.ensures.rest (returns-in-Begin-clause-stood g c first t0 stood) c.begin.ensures.frames
+
+pub add-requires-clause-stood : goal.add-requires-clause-stood
+add-requires-clause-stood g c κs within =
+    let stood = c.requires.stood in
+    (stood.0, stood.1, stood_reserved stood.0 stood.1 (g.D.Disk.told c.args.disk.now) c.args.self.now c.reserve.new.self c.reserve.ensures.rest c.reserve.ensures.items stood.2)
+
+pub returns-in-Add-clause-few : goal.returns-in-Add-clause-few
+returns-in-Add-clause-few g c = λ first t0 stood.
+    let now = g.D.Disk.told c.args.disk.now in
+    let new = g.D.Disk.told c.add.new.disk in
+    on_error (c.add.new.disk ≡ c.args.disk.now) (new.calls ≤ now.calls + (landing_calls (last_of first c.args.self.now) + most_reads (last_of first c.args.self.now) c.args.call))
+    (λ same. let calls_same = ap (λ d. (g.D.Disk.told d).calls) same in omega (arith, calls_same)) c.add.result c.add.ensures.still
+
+pub returns-in-Add-clause-stood : goal.returns-in-Add-clause-stood
+returns-in-Add-clause-stood g c = λ first t0 stood.
+    c.add.ensures.stood first t0 (stood_reserved first t0 (g.D.Disk.told c.args.disk.now) c.args.self.now c.reserve.new.self c.reserve.ensures.rest c.reserve.ensures.items stood)
+
+pub returns-in-Add-clause-calls : goal.returns-in-Add-clause-calls
+returns-in-Add-clause-calls g c = λ first t0 stood.
+    let s = c.args.self.now in
+    let t = c.reserve.new.self in
+    let old = g.D.Disk.told c.args.disk.now in
+    let new = g.D.Disk.told c.add.new.disk in
+    added_within (last_of first s) (last_of first t) (tapes_of s) c.args.call c.in-Add.lane c.in-Add.take old.calls new.calls c.in-Add.ensures (last_reserved first s t c.reserve.ensures.rest c.reserve.ensures.items)
+    (subst (λ (l : List (List ℕ)). new.calls ≤ old.calls + add_calls (last_of first t) l c.in-Add.lane c.in-Add.take) (ap (λ (x : Inside). tapes_of x) c.reserve.ensures.rest)
+    (c.add.ensures.calls first t0 (stood_reserved first t0 old s t c.reserve.ensures.rest c.reserve.ensures.items stood)))
+
+pub returns-in-Add-clause-turns : goal.returns-in-Add-clause-turns
+returns-in-Add-clause-turns g c = λ first t0 stood.
+    let s = c.args.self.now in
+    let t = c.reserve.new.self in
+    let old = g.D.Disk.told c.args.disk.now in
+    let new = g.D.Disk.told c.add.new.disk in
+    adds_added (last_of first s) (last_of first t) (tapes_of s) old.calls c.args.caller c.args.call c.in-Add.lane c.in-Add.take new.calls s.history.items c.add.new.self.history.items c.add.result
+    c.in-Add.ensures (last_reserved first s t c.reserve.ensures.rest c.reserve.ensures.items)
+    (subst (λ (l : List (List ℕ)). new.calls ≤ old.calls + add_calls (last_of first t) l c.in-Add.lane c.in-Add.take) (ap (λ (x : Inside). tapes_of x) c.reserve.ensures.rest)
+    (c.add.ensures.calls first t0 (stood_reserved first t0 old s t c.reserve.ensures.rest c.reserve.ensures.items stood)))
+    (items_from c.args.caller c.args.call (calls.Add c.in-Add.lane c.in-Add.take) new.calls s.history.items t.history.items c.add.new.self.history.items c.add.result
+    c.in-Add.ensures c.reserve.ensures.items c.add.ensures.items)
+
+pub returns-in-Add-clause-frames : goal.returns-in-Add-clause-frames
+returns-in-Add-clause-frames g c = λ first t0 stood.
+    frames_reserved first t0 (g.D.Disk.told c.add.new.disk) (landed (last_of first c.args.self.now)) c.args.self.now c.reserve.new.self c.add.new.self c.reserve.ensures.rest (returns-in-Add-clause-stood g c first t0 stood) c.add.ensures.frames

@@ -23,3 +23,8 @@ pub returns-in-Replace-clause-calls : goal.returns-in-Replace-clause-calls
 returns-in-Replace-clause-calls g c = λ first t0 stood.
     let s = c.args.self.now in
     subst (λ (x : Call). (g.D.Disk.told c.edit-in-Replace.new.disk).calls ≤ (g.D.Disk.told c.args.disk.now).calls + change_calls (last_of first s) (tapes_of s) x) (sym c.in-Replace.is) (c.edit-in-Replace.ensures.calls first t0 stood)
+
+pub returns-in-End-clause-calls : goal.returns-in-End-clause-calls
+returns-in-End-clause-calls g c = λ first t0 stood.
+    let s = c.args.self.now in
+    subst (λ (x : Call). (g.D.Disk.told c.end.new.disk).calls ≤ (g.D.Disk.told c.args.disk.now).calls + change_calls (last_of first s) (tapes_of s) x) (sym c.in-End.is) (c.end.ensures.calls first t0 stood)

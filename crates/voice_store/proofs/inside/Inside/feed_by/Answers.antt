@@ -65,7 +65,7 @@ returns-clause-samples g c = λ honest first t0 stood.
     fed_samples stood.fill s.lanes s.made last (tapes_of s) c.args.lane block None stood.playing.shows (ap (λ (x : Shape). x.block) (shape ∙ sym stood.upright.seated.shape)) (omega (arith, least))
     standing.0 stood.takings stood.b c.feed.new.parts c.feed.new.lanes c.in_ok-fed.fed (c.in_ok-fed.ensures.served stood.fill standing.0 stood.takings s.made stood.b last (tapes_of s) standing.1 standing.2)
     (c.in_ok-fed.ensures.samples honest (bytes_by stood.fill block)
-    (on_disk stood.fill c.shape-shape.result old.bytes s.parts.blocks.holders (subst (λ (x : Shape). IsFilled stood.fill x old.bytes s.parts.blocks.holders) (sym shape) (stood.upright.bytes honest)))
+    (on_disk stood.fill c.shape-shape.result old.bytes s.parts.blocks.holders (subst (λ (x : Shape). IsFilled stood.fill x old.bytes s.parts.blocks.holders) (sym shape) (stood.upright.bytes honest).filled))
     (subst (λ (x : Shape). HoldsBytes (bytes_by stood.fill x.block) s.lanes.frames) (sym shape) (stood.playing.bytes honest)))
 
 pub returns-clause-stood : goal.returns-clause-stood

@@ -12,7 +12,8 @@ use Rattle.voice_store.specs.declared.inside.Inside.{Inside}
 use Rattle.voice_store.specs.Stood.{tapes_of}
 use Rattle.voice_store.proofs.FirstStates.{first_of, stood_first, opens_as_first, first_held, refused_place}
 use Rattle.std.proofs.lemmas.Result.{err_from_is_err_and}
-use Rattle.std.specs.Prelude.{None}
+use Rattle.std.specs.Prelude.{None, replicate}
+use Rattle.voice_model.specs.State.{quiet_lane}
 use Rattle.std.proofs.Common.{◌≤◌, ◌<◌}
 use Rattle.voice_units.specs.declared.shapes.Shape.{Shape}
 use Rattle.voice_journal.specs.Readings.{extent}
@@ -61,20 +62,21 @@ returns-clause-state g c =
     ap (λ (l : List Placed). replayed (nothing_rebuilt opening.shape) (records_of l)) (sym payloads) ∙ c.in_ok-parts.ensures.ok.1 in
     let here : replayed (nothing_rebuilt opening.journal.shape) (records_of opening.payloads.items) ≡ Replayed.All b =
     ap (λ (x : Shape). replayed (nothing_rebuilt x) (records_of opening.payloads.items)) same ∙ rebuilds in
-    let items : c.new-2.result.items ≡ [] = search rules in
+    let items : c.new-3.result.items ≡ [] = search rules in
     let from : 16 ≤ opening.journal.seat.gate = search rules in
     let within : opening.journal.seat.gate < opening.journal.shape.area = search rules in
     let size : extent opening.journal.shape ≤ new.size = subst (λ (x : Shape). extent x ≤ new.size) (sym same) facts.fits in
     let honest_now : IsTrue old.honest → IsHonest new = λ h. record { since = laws.since c.open.new.disk; present = laws.present c.open.new.disk (to_new h) } in
     let law = opening_holds c.foundations.ensures new in
-    let s : Inside = record { alloc = c.args.alloc; tapes = c.args.tapes; journal = opening.journal; parts = c.in_ok-parts.parts; lanes = c.in-Ok.lanes; made = 0; doubt = None; history = c.new-2.result } in
+    let s : Inside = record { alloc = c.args.alloc; tapes = c.args.tapes; journal = opening.journal; parts = c.in_ok-parts.parts; lanes = c.in-Ok.lanes; made = 0; recordings = c.in-Ok-new.recordings; doubt = None; history = c.new-3.result } in
     let t0 = old.calls + 1 in (
       first_of old.bytes opening.journal b,
       stood_first t0 old.bytes new s b opening.payloads.items items here tables refl facts.sure from within facts.moment size
           (λ h. let honest = to_old h in let reads = facts.reads honest in
           first_held (tapes_of s) t0 old.bytes new opening b same rebuilds (honest_now honest) facts.moment (facts.since honest) reads.0 reads.1 law)
           (λ h. (looks.still (to_old h)).bytes)
-          (empty_at opening.shape opening.journal.shape c.in-Ok.lanes same c.in-Ok.ensures.queues c.in-Ok.ensures.sizes.1 c.in-Ok.ensures.empty) refl,
+          (empty_at opening.shape opening.journal.shape c.in-Ok.lanes same c.in-Ok.ensures.queues c.in-Ok.ensures.sizes.1 c.in-Ok.ensures.empty) refl
+          (λ t quiet. c.in-Ok-new.ensures.shows t (quiet ∙ ap (λ (x : Shape). replicate x.lanes quiet_lane) same)),
       λ honest.
           let reads = facts.reads honest in
           opens_as_first (tapes_of s) t0 old.bytes new opening b same rebuilds (honest_now honest) facts.moment (facts.since honest) reads.0 reads.1 law,

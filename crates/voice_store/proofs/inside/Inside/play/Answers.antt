@@ -11,7 +11,7 @@ use Rattle.voice_store.specs.Stood.{last_of, tapes_of}
 use Rattle.voice_store.specs.Facts.{IsFault, entry_of}
 use Rattle.voice_store.proofs.Refused.{refused_plain}
 use Rattle.voice_store.proofs.Turned.{stood_stands}
-use Rattle.voice_store.proofs.Queued.{Answers, unrecorded_at, stood_unmoved, stood_queued}
+use Rattle.voice_store.proofs.Queued.{Answers, stood_unmoved, stood_queued}
 use Rattle.voice_store.proofs.inside.Inside.play.Goals as goal
 
 pub play-requires-clause-runs : goal.play-requires-clause-runs
@@ -35,7 +35,7 @@ returns-in-Refused-clause-plain g c = λ fault.
     let p = c.args.passage in
     let call = calls.Play p.lane p.rope p.start p.len in
     let refused = subst (λ (x : Played). IsPlayed h.2.fill stands.0 h.2.takings h.2.b last (tapes_of s) call s.made c.play.new.parts c.play.new.lanes x) c.in-Refused.is
-    (c.in_ok-played.ensures.played h.2.fill stands.0 h.2.takings h.2.b last (tapes_of s) stands.1 (ap is_some (unrecorded_at last p.lane h.2.playing.unrecorded))) in
+    (c.in_ok-played.ensures.played h.2.fill stands.0 h.2.takings h.2.b last (tapes_of s) stands.1 (sym (c.is_open-recording.ensures.shown last h.2.playing.recorded))) in
     refused_plain last (tapes_of s) call c.in-Refused.why refused (subst IsFault c.refuse.ensures.reply fault)
 
 pub returns-in-Refused-clause-stood : goal.returns-in-Refused-clause-stood
@@ -47,7 +47,7 @@ returns-in-Refused-clause-stood g c = λ first t0 stood.
     let p = c.args.passage in
     let call = calls.Play p.lane p.rope p.start p.len in
     let refused = subst (λ (x : Played). IsPlayed stood.fill stands.0 stood.takings stood.b last (tapes_of s) call s.made c.play.new.parts c.play.new.lanes x) c.in-Refused.is
-    (c.in_ok-played.ensures.played stood.fill stands.0 stood.takings stood.b last (tapes_of s) stands.1 (ap is_some (unrecorded_at last p.lane stood.playing.unrecorded))) in
+    (c.in_ok-played.ensures.played stood.fill stands.0 stood.takings stood.b last (tapes_of s) stands.1 (sym (c.is_open-recording.ensures.shown last stood.playing.recorded))) in
     let same = subst (λ (x : Played). StaysRefused s.parts s.lanes c.play.new.parts c.play.new.lanes x) c.in-Refused.is c.in_ok-played.ensures.refused in
     c.refuse.ensures.stood first t0 (stood_unmoved first t0 disk s c.play.new.parts c.play.new.lanes same.0 same.1 stood) refl refused
 
@@ -65,7 +65,7 @@ returns-in-Job-clause-stood g c = λ first t0 stood.
     let honest : IsTrue disk.honest → IsHonest disk = λ h. record { since = laws.since d; present = laws.present d h } in
     let answered : Answers first t0 disk s s' stood c.args.caller call reply = λ pledged takings st are.
     (subst (λ (x : Played). IsPlayed stood.fill pledged takings stood.b last (tapes_of s) call s.made c.play.new.parts c.play.new.lanes x) c.in-Job.is
-    (c.in_ok-played.ensures.played stood.fill pledged takings stood.b last (tapes_of s) st (ap is_some (unrecorded_at last p.lane stood.playing.unrecorded)))).1 in
+    (c.in_ok-played.ensures.played stood.fill pledged takings stood.b last (tapes_of s) st (sym (c.is_open-recording.ensures.shown last stood.playing.recorded)))).1 in
     let items : s'.history.items ≡ s.history.items ++ entry_of c.args.caller call reply disk.calls ∷ [] =
     c.enter.ensures.items ∙ ap (λ (n : ℕ). s.history.items ++ entry_of c.args.caller call reply n ∷ []) c.calls.ensures in
     stood_queued first t0 disk s s' stood c.args.caller p.lane p.rope p.start p.len reply answered refl items

@@ -9,6 +9,9 @@ use Rattle.voice_store.proofs.Fewer.{long, enough}
 use Rattle.next_ropes.specs.Addresses.{HandsOut}
 use Rattle.voice_store.proofs.Filled.{never_handed}
 use Rattle.voice_store.proofs.Written.{change_in, holding, handed_on}
+use Rattle.next_changes.specs.declared.NextChange.TheVariants as changes
+use Rattle.voice_store.specs.declared.going.Going.TheVariants as goings
+use Rattle.voice_store.specs.Going.{IsGoingIn}
 use Rattle.voice_store.proofs.inside.Inside.record_by.Goals as goal
 
 pub ready_recording-requires-clause-parts : goal.ready_recording-requires-clause-parts
@@ -53,11 +56,30 @@ plan-requires g c =
     record {
       held = way.2.makes.stood.held;
       takings = way.2.makes.stood.takings;
+      more = way.2.makes.stood.takings;
       b = b;
       c = change_in b c.in_ok-rope.rope;
-      ready = (c.in_ok-rope.ensures.ready way.2.makes.stood.held way.2.makes.stood.takings b (is_sure way.0 way.1 disk s way.2.makes.stood way.2.makes.sure).tables (held_few way.0 way.1 disk s way.2.makes.stood) (shape ∙ sym c.shape-shape.ensures)).0;
+      ready = (refl, (c.in_ok-rope.ensures.ready way.2.makes.stood.held way.2.makes.stood.takings b (is_sure way.0 way.1 disk s way.2.makes.stood way.2.makes.sure).tables (held_few way.0 way.1 disk s way.2.makes.stood) (shape ∙ sym c.shape-shape.ensures)).0);
       in_shape = shape;
     }
+
+pub give_up-requires : goal.give_up-requires
+give_up-requires g c =
+    let way = c.requires.way in
+    let s = c.args.self.now in
+    let disk = g.D.Disk.told c.args.disk.now in
+    let b = way.2.makes.stood.b in
+    let shape = same_shape way.0 way.1 disk s way.2.makes.stood way.2.makes.sure in
+    let is : IsGoingIn s.journal.shape c.ready_recording.new.parts (goings.Change (changes.Rope c.in_ok-rope.rope)) = record {
+      held = way.2.makes.stood.held;
+      takings = way.2.makes.stood.takings;
+      more = way.2.makes.stood.takings;
+      b = b;
+      c = change_in b c.in_ok-rope.rope;
+      ready = (refl, (c.in_ok-rope.ensures.ready way.2.makes.stood.held way.2.makes.stood.takings b (is_sure way.0 way.1 disk s way.2.makes.stood way.2.makes.sure).tables (held_few way.0 way.1 disk s way.2.makes.stood) (shape ∙ sym c.shape-shape.ensures)).0);
+      in_shape = shape;
+    } in
+    (s.journal.shape, is)
 
 pub returns-in_default-clause-stood : goal.returns-in_default-clause-stood
 returns-in_default-clause-stood g c = λ first t0 way.
@@ -66,9 +88,9 @@ returns-in_default-clause-stood g c = λ first t0 way.
     let b = way.makes.stood.b in
     let tables = (is_sure first t0 disk s way.makes.stood way.makes.sure).tables in
     let shape = same_shape first t0 disk s way.makes.stood way.makes.sure in
-    let shows = c.give_back.ensures.runs way.makes.stood.held way.makes.stood.takings b (change_in b c.in_ok-rope.rope) (c.in_ok-rope.ensures.ready way.makes.stood.held way.makes.stood.takings b tables (held_few first t0 disk s way.makes.stood) (shape ∙ sym c.shape-shape.ensures)).0 in
-    same_parts first t0 disk s way.makes.stood way.makes.sure c.give_back.new.parts shows
-    (never_handed way.makes.stood.held way.makes.stood.takings b s.parts.blocks.holders c.ready_recording.new.parts.blocks.holders c.give_back.new.parts (subst (λ n. HandsOut n s.parts.blocks.holders c.ready_recording.new.parts.blocks.holders) tables.kept.next c.in_ok-rope.ensures.own) c.give_back.ensures.kept shows)
+    let shows = c.give_up.ensures.tables way.makes.stood.held way.makes.stood.takings way.makes.stood.takings b (change_in b c.in_ok-rope.rope) (refl, (c.in_ok-rope.ensures.ready way.makes.stood.held way.makes.stood.takings b tables (held_few first t0 disk s way.makes.stood) (shape ∙ sym c.shape-shape.ensures)).0) in
+    same_parts first t0 disk s way.makes.stood way.makes.sure c.give_up.new.parts shows
+    (never_handed way.makes.stood.held way.makes.stood.takings b s.parts.blocks.holders c.ready_recording.new.parts.blocks.holders c.give_up.new.parts (subst (λ n. HandsOut n s.parts.blocks.holders c.ready_recording.new.parts.blocks.holders) tables.kept.next c.in_ok-rope.ensures.own) c.give_up.ensures.kept shows)
 
 pub write_and_commit-requires-clause-holds : goal.write_and_commit-requires-clause-holds
 write_and_commit-requires-clause-holds g c κs within =
@@ -87,7 +109,7 @@ write_and_commit-requires-clause-holds g c κs within =
       t0,
       holding first t0 disk s c.args.take c.args.way way c.ready_recording.new.parts next ready.0 c.in_ok-rope.ensures.recorded
           (ready.1 ∙ ap (λ (x : Shape). blocks_for x.block c.args.take.len) c.shape-shape.ensures) ready.2 ready.3 ready.4 (handed_on first t0 disk s c.args.take c.args.way way c.ready_recording.new.parts c.in_ok-rope.ensures.own),
-      c.in-Ok.ensures way.makes.stood.held way.makes.stood.takings b (change_in b next) (last_of first s) (recorded_by (last_of first s) (tapes_of s) c.args.take) ready.0 shape way.goes way.free,
+      c.in-Ok.ensures way.makes.stood.held way.makes.stood.takings way.makes.stood.takings b (change_in b next) (last_of first s) (recorded_by (last_of first s) (tapes_of s) c.args.take) (refl, ready.0) shape way.goes way.free,
     )
 
 pub returns-clause-stood : goal.returns-clause-stood
@@ -101,7 +123,7 @@ returns-clause-stood g c = λ first t0 way.
     c.write_and_commit.ensures.stood next refl first t0
     (holding first t0 disk s c.args.take c.args.way way c.ready_recording.new.parts next ready.0 c.in_ok-rope.ensures.recorded
     (ready.1 ∙ ap (λ (x : Shape). blocks_for x.block c.args.take.len) c.shape-shape.ensures) ready.2 ready.3 ready.4 (handed_on first t0 disk s c.args.take c.args.way way c.ready_recording.new.parts c.in_ok-rope.ensures.own))
-    (c.in-Ok.ensures way.makes.stood.held way.makes.stood.takings b (change_in b next) (last_of first s) (recorded_by (last_of first s) (tapes_of s) c.args.take) ready.0 shape way.goes way.free)
+    (c.in-Ok.ensures way.makes.stood.held way.makes.stood.takings way.makes.stood.takings b (change_in b next) (last_of first s) (recorded_by (last_of first s) (tapes_of s) c.args.take) (refl, ready.0) shape way.goes way.free)
 
 pub returns-clause-calls : goal.returns-clause-calls
 returns-clause-calls g c = λ first t0 way.
@@ -114,4 +136,4 @@ returns-clause-calls g c = λ first t0 way.
     c.write_and_commit.ensures.calls next refl first t0
     (holding first t0 disk s c.args.take c.args.way way c.ready_recording.new.parts next ready.0 c.in_ok-rope.ensures.recorded
     (ready.1 ∙ ap (λ (x : Shape). blocks_for x.block c.args.take.len) c.shape-shape.ensures) ready.2 ready.3 ready.4 (handed_on first t0 disk s c.args.take c.args.way way c.ready_recording.new.parts c.in_ok-rope.ensures.own))
-    (c.in-Ok.ensures way.makes.stood.held way.makes.stood.takings b (change_in b next) (last_of first s) (recorded_by (last_of first s) (tapes_of s) c.args.take) ready.0 shape way.goes way.free)
+    (c.in-Ok.ensures way.makes.stood.held way.makes.stood.takings way.makes.stood.takings b (change_in b next) (last_of first s) (recorded_by (last_of first s) (tapes_of s) c.args.take) (refl, ready.0) shape way.goes way.free)

@@ -1,14 +1,15 @@
-use Rattle.std.proofs.Common.{◌≤◌, ◌^◌, subst}
+use Rattle.std.proofs.Common.{◌≤◌, ◌^◌, refl, subst}
 use Rattle.next_changes.specs.declared.NextChange.TheVariants.{Other}
+use Rattle.voice_store.specs.declared.going.Going.TheVariants as goings
 use Rattle.voice_store.specs.declared.committing.Plan.TheVariants as plans
 use Rattle.voice_store.specs.declared.ways.Way.{Way}
 use Rattle.voice_store.specs.Ways.{IsWay}
 use Rattle.voice_store.specs.Stood.{last_of}
-use Rattle.voice_store.proofs.Going.{can_go}
+use Rattle.voice_store.proofs.CanGo.{can_go}
 use Rattle.voice_store.proofs.Kept.{is_sure}
 use Rattle.voice_store.proofs.Making.{nothing_lands}
 use Rattle.voice_model.specs.Replay.{acted}
-use Rattle.voice_store.proofs.Altered.{effect, change, ready_in, weighs, grows, altering_full, altering_free, trying_change}
+use Rattle.voice_store.proofs.Altered.{effect, change, ready_in, going_in, weighs, grows, altering_full, altering_free, trying_change}
 use Rattle.voice_store.proofs.Counted.{altered_within}
 use Rattle.voice_store.proofs.inside.Inside.send.Goals as goal
 
@@ -40,7 +41,7 @@ commit-requires-clause-can g c κs within =
     let made = effect first t0 disk s c.args.call c.args.ready c.args.replies.0 c.args.growth h in
     let then = change first t0 disk s c.args.call c.args.ready c.args.replies.0 c.args.growth h in
     let goes = subst (λ (w : Way). IsWay last made w) c.in-Append.is (c.in_ok-most.ensures.way h.stood.b then last made (weighs first t0 disk s c.args.call c.args.ready c.args.replies.0 c.args.growth h) (grows first t0 disk s c.args.call c.args.ready c.args.replies.0 c.args.growth h)) in
-    can_go first t0 disk s h.stood.b (Other c.args.ready) then made c.args.caller c.args.call c.args.replies.0
+    can_go first t0 disk s h.stood.b (goings.Change (Other c.args.ready)) then made c.args.caller c.args.call c.args.replies.0
     (trying_change first t0 disk s c.args.call c.args.ready c.args.replies.0 c.args.growth h c.foundations.ensures c.disks_are_honest.ensures c.args.caller goes.free)
     (subst (λ n. n ≤ 2 ^ 48) c.epoch-most.ensures.value c.epoch-most.ensures.most)
     plans.Append goes
@@ -48,7 +49,7 @@ commit-requires-clause-can g c κs within =
 pub commit-requires-clause-ready : goal.commit-requires-clause-ready
 commit-requires-clause-ready g c κs within =
     let h = c.requires.alters in
-    ready_in h.0 h.1 (g.D.Disk.told c.args.disk.now) c.args.self.now c.args.call c.args.ready c.args.replies.0 c.args.growth h.2
+    going_in h.0 h.1 (g.D.Disk.told c.args.disk.now) c.args.self.now c.args.call c.args.ready c.args.replies.0 c.args.growth h.2
 
 pub returns-in-Append-clause-stood : goal.returns-in-Append-clause-stood
 returns-in-Append-clause-stood g c = λ first t0 h.
@@ -65,7 +66,7 @@ returns-in-Append-clause-stood g c = λ first t0 h.
 pub plan-requires : goal.plan-requires
 plan-requires g c =
     let h = c.requires.alters in
-    ready_in h.0 h.1 (g.D.Disk.told c.args.disk.now) c.args.self.now c.args.call c.args.ready c.args.replies.0 c.args.growth h.2
+    going_in h.0 h.1 (g.D.Disk.told c.args.disk.now) c.args.self.now c.args.call c.args.ready c.args.replies.0 c.args.growth h.2
 
 pub commit-requires-in-Switch-clause-can : goal.commit-requires-in-Switch-clause-can
 commit-requires-in-Switch-clause-can g c κs within =
@@ -78,15 +79,15 @@ commit-requires-in-Switch-clause-can g c κs within =
     let made = effect first t0 disk s c.args.call c.args.ready c.args.replies.0 c.args.growth h in
     let then = change first t0 disk s c.args.call c.args.ready c.args.replies.0 c.args.growth h in
     let goes = subst (λ (w : Way). IsWay last made w) c.in-Switch.is (c.in_ok-most.ensures.way h.stood.b then last made (weighs first t0 disk s c.args.call c.args.ready c.args.replies.0 c.args.growth h) (grows first t0 disk s c.args.call c.args.ready c.args.replies.0 c.args.growth h)) in
-    can_go first t0 disk s h.stood.b (Other c.args.ready) then made c.args.caller c.args.call c.args.replies.0
+    can_go first t0 disk s h.stood.b (goings.Change (Other c.args.ready)) then made c.args.caller c.args.call c.args.replies.0
     (trying_change first t0 disk s c.args.call c.args.ready c.args.replies.0 c.args.growth h c.foundations.ensures c.disks_are_honest.ensures c.args.caller goes.free)
     (subst (λ n. n ≤ 2 ^ 48) c.epoch-most.ensures.value c.epoch-most.ensures.most)
-    c.in_ok-plan-in-Switch.plan (c.in_ok-plan-in-Switch.ensures (weighs first t0 disk s c.args.call c.args.ready c.args.replies.0 c.args.growth h).held (weighs first t0 disk s c.args.call c.args.ready c.args.replies.0 c.args.growth h).takings h.stood.b then last made (weighs first t0 disk s c.args.call c.args.ready c.args.replies.0 c.args.growth h).is_next (weighs first t0 disk s c.args.call c.args.ready c.args.replies.0 c.args.growth h).in_shape goes goes.free)
+    c.in_ok-plan-in-Switch.plan (c.in_ok-plan-in-Switch.ensures (weighs first t0 disk s c.args.call c.args.ready c.args.replies.0 c.args.growth h).held (weighs first t0 disk s c.args.call c.args.ready c.args.replies.0 c.args.growth h).takings (weighs first t0 disk s c.args.call c.args.ready c.args.replies.0 c.args.growth h).takings h.stood.b then last made (refl, (weighs first t0 disk s c.args.call c.args.ready c.args.replies.0 c.args.growth h).is_next) (weighs first t0 disk s c.args.call c.args.ready c.args.replies.0 c.args.growth h).in_shape goes goes.free)
 
 pub commit-requires-in-Switch-clause-ready : goal.commit-requires-in-Switch-clause-ready
 commit-requires-in-Switch-clause-ready g c κs within =
     let h = c.requires.alters in
-    ready_in h.0 h.1 (g.D.Disk.told c.args.disk.now) c.args.self.now c.args.call c.args.ready c.args.replies.0 c.args.growth h.2
+    going_in h.0 h.1 (g.D.Disk.told c.args.disk.now) c.args.self.now c.args.call c.args.ready c.args.replies.0 c.args.growth h.2
 
 pub returns-in_ok-plan-in-Switch-clause-stood : goal.returns-in_ok-plan-in-Switch-clause-stood
 returns-in_ok-plan-in-Switch-clause-stood g c = λ first t0 h.
@@ -98,7 +99,7 @@ returns-in_ok-plan-in-Switch-clause-stood g c = λ first t0 h.
     let goes = subst (λ (w : Way). IsWay last made w) c.in-Switch.is (c.in_ok-most.ensures.way h.stood.b then last made (weighs first t0 disk s c.args.call c.args.ready c.args.replies.0 c.args.growth h) (grows first t0 disk s c.args.call c.args.ready c.args.replies.0 c.args.growth h)) in
     c.commit-in-Switch.ensures.stood first t0 h.stood.b then made
     (trying_change first t0 disk s c.args.call c.args.ready c.args.replies.0 c.args.growth h c.foundations.ensures c.disks_are_honest.ensures c.args.caller goes.free)
-    (c.in_ok-plan-in-Switch.ensures (weighs first t0 disk s c.args.call c.args.ready c.args.replies.0 c.args.growth h).held (weighs first t0 disk s c.args.call c.args.ready c.args.replies.0 c.args.growth h).takings h.stood.b then last made (weighs first t0 disk s c.args.call c.args.ready c.args.replies.0 c.args.growth h).is_next (weighs first t0 disk s c.args.call c.args.ready c.args.replies.0 c.args.growth h).in_shape goes goes.free)
+    (c.in_ok-plan-in-Switch.ensures (weighs first t0 disk s c.args.call c.args.ready c.args.replies.0 c.args.growth h).held (weighs first t0 disk s c.args.call c.args.ready c.args.replies.0 c.args.growth h).takings (weighs first t0 disk s c.args.call c.args.ready c.args.replies.0 c.args.growth h).takings h.stood.b then last made (refl, (weighs first t0 disk s c.args.call c.args.ready c.args.replies.0 c.args.growth h).is_next) (weighs first t0 disk s c.args.call c.args.ready c.args.replies.0 c.args.growth h).in_shape goes goes.free)
 
 pub returns-in-Append-clause-calls : goal.returns-in-Append-clause-calls
 returns-in-Append-clause-calls g c = λ first t0 h.
@@ -119,5 +120,5 @@ returns-in_ok-plan-in-Switch-clause-calls g c = λ first t0 h.
     let then = change first t0 disk s c.args.call c.args.ready c.args.replies.0 c.args.growth h in
     let goes = subst (λ (w : Way). IsWay last made w) c.in-Switch.is (c.in_ok-most.ensures.way h.stood.b then last made (weighs first t0 disk s c.args.call c.args.ready c.args.replies.0 c.args.growth h) (grows first t0 disk s c.args.call c.args.ready c.args.replies.0 c.args.growth h)) in
     altered_within first t0 disk s c.args.call c.args.ready c.args.replies.0 c.args.growth h (acted h.stood.b then) c.in_ok-plan-in-Switch.plan (g.D.Disk.told c.commit-in-Switch.new.disk).calls
-    (c.in_ok-plan-in-Switch.ensures (weighs first t0 disk s c.args.call c.args.ready c.args.replies.0 c.args.growth h).held (weighs first t0 disk s c.args.call c.args.ready c.args.replies.0 c.args.growth h).takings h.stood.b then last made (weighs first t0 disk s c.args.call c.args.ready c.args.replies.0 c.args.growth h).is_next (weighs first t0 disk s c.args.call c.args.ready c.args.replies.0 c.args.growth h).in_shape goes goes.free)
+    (c.in_ok-plan-in-Switch.ensures (weighs first t0 disk s c.args.call c.args.ready c.args.replies.0 c.args.growth h).held (weighs first t0 disk s c.args.call c.args.ready c.args.replies.0 c.args.growth h).takings (weighs first t0 disk s c.args.call c.args.ready c.args.replies.0 c.args.growth h).takings h.stood.b then last made (refl, (weighs first t0 disk s c.args.call c.args.ready c.args.replies.0 c.args.growth h).is_next) (weighs first t0 disk s c.args.call c.args.ready c.args.replies.0 c.args.growth h).in_shape goes goes.free)
     (altering_free first t0 disk s c.args.call c.args.ready c.args.replies.0 c.args.growth h goes.free) c.commit-in-Switch.ensures.calls

@@ -10,6 +10,7 @@ use Rattle.voice_store.specs.declared.inside.Doubted.{Doubted}
 use Rattle.voice_store.specs.declared.inside.Inside.{Inside}
 use Rattle.voice_store.specs.Stood.{last_of}
 use Rattle.voice_store.specs.Facts.{landing_at}
+use Rattle.voice_store.proofs.Played.{recorded_still}
 use Rattle.voice_store.proofs.Results.{on_ok, on_err}
 use Rattle.voice_store.proofs.Settled.{unsure_by, unsure_of, same_doubted, landed_journal, stood_landed, stood_not_landed, ready_in, shape_of}
 use Rattle.voice_store.proofs.Counted.{landed_still, landing_two, last_landed}
@@ -79,6 +80,7 @@ returns-clause-stood g c =
     c.enter.ensures.items ∙ ap (λ (l : List Entry). l ++ landing_at c.calls.result ∷ []) on_same ∙ ap (λ (n : ℕ). s.history.items ++ landing_at n ∷ []) now in
     stood_landed first t0 old new s s' stood unsure made.later made.size made.honest moments (landings_carry c.foundations.ensures old new)
     (ap (λ (x : Inside). x.tapes) rest) items c.land.ensures.bytes c.take_in.ensures.kept (ap (λ (x : Inside). x.journal) rest ∙ journal)
+    (recorded_still s s' (last_of first s) (ap (λ (x : Inside). x.recordings) rest) stood.playing.recorded)
     (record { forgot = c.take_in.ensures.lanes; bytes = c.take_in.ensures.bytes; made = ap (λ (x : Inside). x.made) rest }) (ap (λ (x : Inside). x.doubt) rest ∙ taken)
     (c.take_in.ensures.form ∙ ap (λ (d : Doubted). d.form) (sym same)) tables
     (λ h. (

@@ -18,10 +18,9 @@ use Rattle.voice_model.proofs.PlacesKept.{placed_next}
 use Rattle.voice_model.proofs.BaseSize.{base_sized}
 use Rattle.fillings.proofs.Acted.{used_acted}
 use Rattle.crash_laws.proofs.Commits.{acted_form}
-use Rattle.next_changes.specs.declared.NextChange.{NextChange}
-use Rattle.next_changes.specs.Next.{payload_of}
-use Rattle.next_changes.specs.Laws.{IsGiven}
-use Rattle.next_changes.proofs.Given.{given}
+use Rattle.voice_store.specs.declared.going.Going.{Going}
+use Rattle.voice_store.specs.Going.{payload_in}
+use Rattle.voice_store.proofs.OnItsWay.{IsOnItsWay, on_its_way}
 use Rattle.voice_store.specs.declared.inside.Inside.{Inside}
 use Rattle.voice_store.specs.declared.committing.Base.{Base}
 use Rattle.voice_store.specs.declared.committing.Plan.{Plan}
@@ -31,8 +30,8 @@ use Rattle.voice_store.specs.Ways.{FitsBehind, FitsOther}
 use Rattle.voice_store.specs.Trying.{Trying, IsPlan, IsBaseOf, CanGo, form_taken}
 use Rattle.voice_store.proofs.Refused.{wrong}
 
-module _ (first : State) (t0 : ℕ) (disk : Told) (s : Inside) (b : Rebuilt) (next : NextChange) (c : Change) (effect : Effect Tagged) (caller : ℕ) (call : Call) (reply : Reply)
-    (h : Trying first t0 disk s b next c effect caller call reply) (most : s.journal.seat.epoch ≤ 2 ^ 48) where
+module _ (first : State) (t0 : ℕ) (disk : Told) (s : Inside) (b : Rebuilt) (going : Going) (c : Change) (effect : Effect Tagged) (caller : ℕ) (call : Call) (reply : Reply)
+    (h : Trying first t0 disk s b going c effect caller call reply) (most : s.journal.seat.epoch ≤ 2 ^ 48) where
   abbrev last : State
   last = last_of first s
 
@@ -42,15 +41,15 @@ module _ (first : State) (t0 : ℕ) (disk : Told) (s : Inside) (b : Rebuilt) (ne
   abbrev most_bytes : ℕ
   most_bytes = s.journal.shape.area - 17
 
-  can_append : FitsBehind last effect → s.journal.seat.gate + 5 + length (payload_of next) < s.journal.shape.area
+  can_append : FitsBehind last effect → s.journal.seat.gate + 5 + length (payload_in going) < s.journal.shape.area
   can_append behind =
       let fits = behind.fits in
       let left = h.upright.seated.left in
       let size = h.frame in
       omega (arith, fits, left, size)
 
-  abbrev gives : IsGiven h.held h.takings s.parts b next c
-  gives = given h.held h.takings s.parts b next c h.ready
+  abbrev gives : IsOnItsWay h.held h.takings s.parts b going c
+  gives = on_its_way h.held h.takings h.more s.parts b going c h.ready
 
   sized : (form : ℕ) → changes.framed_size (base_of form r) ≡ base_size form (changed last.form last.kept effect)
   sized form =
@@ -89,6 +88,6 @@ module _ (first : State) (t0 : ℕ) (disk : Told) (s : Inside) (b : Rebuilt) (ne
       below : (x y : ℕ) → x ≤ y → x ≢ y → x < y
       below x y le ne = grind (arith, le, ne)
 
-  pub can_go : (plan : Plan) → IsPlan s.journal last effect r plan → CanGo s.journal next plan
+  pub can_go : (plan : Plan) → IsPlan s.journal last effect r plan → CanGo s.journal going plan
   can_go plans.Append is = can_append is
   can_go (plans.Switch base) is = can_switch base is.0 is.1
