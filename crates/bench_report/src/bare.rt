@@ -15,7 +15,8 @@ pub fn write<D: Disk>(disk: &mut D, at: u64, bytes: &[u8]) -> io::Result<()> {
     Ok(())
 }
 
-fn sync<D: Disk>(disk: &mut D) -> io::Result<()> {
+/// Makes what was written last.
+pub fn sync<D: Disk>(disk: &mut D) -> io::Result<()> {
     if disk.sync().is_err() {
         return Err(io::Error::from(ErrorKind::InvalidData));
     }

@@ -104,6 +104,24 @@ const ROWS: &[(&str, Start, &[Line])] = &[
             ("1 describe 9", &[0]),
         ],
     ),
+    // An Add writes the blocks that become whole, those behind one another at once; an End the last one, where it isn't.
+    (
+        "recordings in parts",
+        Start::New,
+        &[
+            ("1 begin 0", &[0]),
+            ("1 add 0 f20", &[1]),
+            ("1 add 0 z8", &[1]),
+            ("1 begin 1", &[0]),
+            ("1 add 1 z8", &[1]),
+            ("1 add 0 z0", &[0]),
+            ("1 add 0 z16", &[2]),
+            ("1 add 0 z32", &[1]),
+            ("1 end 0", &[5]),
+            ("1 end 1", &[4]),
+            ("1 end 1", &[0]),
+        ],
+    ),
     // The first change writes a base into the other area, and its head.
     (
         "a switch",

@@ -21,6 +21,14 @@ fn is_of_lane(call: &Call) -> bool {
     matches!(call, Call::Play(..) | Call::Feed(..) | Call::Stop(_))
 }
 
+// The call by which the evaluator does what was in doubt, once it lands: an End has closed its recording before.
+fn landing_of(call: &Call) -> &Call {
+    match call {
+        Call::End(_) => &Call::Landed,
+        other => other,
+    }
+}
+
 // The evaluator does a call, and has to answer as its entry says.
 fn done_alike(alloc: Global, plain: &mut Plain, tapes: &Tapes, entry: &Entry) -> Result<(), Fail> {
     let wanted = reply_of(plain, tapes, &entry.call)?;
@@ -50,11 +58,16 @@ fn follow<'a>(
                 let Some(call) = doubt else {
                     return Err(Fail::new("nothing was in doubt"));
                 };
-                let _landed = reply_of(plain, tapes, call)?;
+                let _landed = reply_of(plain, tapes, landing_of(call))?;
                 doubt = None;
             }
             (_, Reply::No(Why::DiskFault | Why::JournalFull(_, _))) => {}
-            (call, Reply::No(Why::InDoubt)) => doubt = Some(call),
+            (call, Reply::No(Why::InDoubt)) => {
+                if let Call::End(lane) = call {
+                    plain.doubt_end(*lane);
+                }
+                doubt = Some(call);
+            }
             _ => done_alike(alloc, plain, tapes, entry)?,
         }
     }
@@ -83,8 +96,9 @@ pub fn shown_after(
     let doubt = follow(alloc, &mut plain, &tapes, history)?;
     if let Some(call) = doubt {
         if landing {
-            let _landed = reply_of(&mut plain, &tapes, call)?;
+            let _landed = reply_of(&mut plain, &tapes, landing_of(call))?;
         }
     }
+    plain.reopen();
     shown_plainly(alloc, &mut plain, &tapes)
 }

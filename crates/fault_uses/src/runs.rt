@@ -19,13 +19,13 @@ pub const G20: &[u8] = b"abcdefghijklmnopqrst";
 
 pub const Z8: &[u8] = &[0x80; 8];
 
-/// A recording, a rope of it in itself, which is heard in two windows, an interest that goes, and a sweep, behind which another recording takes the same blocks.
+/// A recording, a rope of it in itself, which is heard in two windows, two recordings in parts beside each other, behind one of which its lane begins another, an interest that goes, and a sweep, behind which another recording takes the same blocks.
 pub const SCRIPT: &str =
-    "1 a = record f20\n1 retain held k a 00\n1 b = replace a 5 10 a\n1 play 0 b 0 30 out\n1 forget held k\n1 advance 100\n1 sweep 9\n1 record g20\n";
+    "1 a = record f20\n1 retain held k a 00\n1 begin 1\n1 add 1 f20\n1 b = replace a 5 10 a\n1 play 0 b 0 30 out\n1 begin 2\n1 add 2 g20\n1 end 2\n1 add 1 g20\n1 forget held k\n1 advance 100\n1 end 1\n1 begin 1\n1 sweep 9\n1 record g20\n";
 
 /// What it prints without faults.
 pub const TEXT: &str =
-    "1 1 record: rope 1 length 20\n2 1 retain: done\n3 1 replace: rope 2 length 30\n4 1 play: job 1\n5 1 feed: window 0 25\n6 1 feed: window 25 5\n7 1 feed: ended 1 30\n8 1 forget: done\n9 1 advance: done\n10 1 sweep: swept 0 rows 2 ropes 1 2\n11 1 record: rope 3 length 20\n";
+    "1 1 record: rope 1 length 20\n2 1 retain: done\n3 1 begin: done\n4 1 add: number 20\n5 1 replace: rope 2 length 30\n6 1 play: job 1\n7 1 feed: window 0 25\n8 1 feed: window 25 5\n9 1 feed: ended 1 30\n10 1 begin: done\n11 1 add: number 20\n12 1 end: rope 3 length 20\n13 1 add: number 40\n14 1 forget: done\n15 1 advance: done\n16 1 end: rope 4 length 40\n17 1 begin: done\n18 1 sweep: swept 0 rows 3 ropes 1 2 3\n19 1 record: rope 5 length 20\n";
 
 /// What is heard of it, as the file `out`.
 pub const HEARD: &[u8] = b"ABCDEABCDEFGHIJKLMNOPQRSTPQRST";

@@ -23,6 +23,9 @@ pub enum Ask {
     Advance(u32),
     Sweep(u16),
     Begin(u16),
+    /// Adds the first samples of the tape.
+    Add(u16, u32),
+    End(u16),
     Landed,
 }
 
@@ -71,10 +74,45 @@ const EDITS: Case = Case {
         (Ask::Record(0), "rope 6 length 0"),
         (Ask::Sub(1, 20, 0), "rope 7 length 0"),
         (Ask::Record(21), "-"),
-        (Ask::Begin(0), "-"),
         (Ask::Landed, "-"),
     ],
     free: 21,
+};
+
+// A recording takes its blocks as it grows, and keeps them as a rope.
+const PARTS: Case = Case {
+    blocks: 9,
+    graces: DAY,
+    tape: &[(0x41, 20)],
+    rows: &[
+        (Ask::Begin(3), "no unknown-lane 3"),
+        (Ask::Add(3, 1), "no unknown-lane 3"),
+        (Ask::End(3), "no unknown-lane 3"),
+        (Ask::Add(0, 1), "no no-recording"),
+        (Ask::End(0), "no no-recording"),
+        (Ask::Record(8), "rope 1 length 8"),
+        (Ask::Play(1, 1, 0, 8), "job 1"),
+        (Ask::Begin(1), "no lane-busy 1"),
+        (Ask::Begin(0), "done"),
+        (Ask::Begin(0), "no lane-recording"),
+        (Ask::Play(0, 9, 0, 1), "no unknown-rope 9"),
+        (Ask::Play(0, 1, 0, 9), "no lane-recording"),
+        (Ask::Add(0, 20), "number 20"),
+        (Ask::Add(0, 0), "number 20"),
+        (Ask::Add(0, 20), "number 40"),
+        (Ask::Begin(2), "done"),
+        (Ask::Add(2, 20), "number 20"),
+        (Ask::Add(2, 4), "number 24"),
+        (Ask::Add(2, 1), "no no-room 1 0"),
+        (Ask::Record(1), "no no-room 1 0"),
+        (Ask::End(0), "rope 2 length 40"),
+        (Ask::End(0), "no no-recording"),
+        (Ask::Replace(2, 0, 40, 1), "rope 3 length 8"),
+        (Ask::Begin(0), "done"),
+        (Ask::End(0), "rope 4 length 0"),
+        (Ask::End(2), "rope 5 length 24"),
+    ],
+    free: 0,
 };
 
 // 16 ropes of 256 pieces have as many as a rope may have.
@@ -290,5 +328,5 @@ const TALK: Case = Case {
 
 /// All cases.
 pub const CASES: &[Case] = &[
-    EDITS, PIECES, ROOM, MAIL, INTERESTS, WAITS, WINDOWS, STOPS, TALK,
+    EDITS, PARTS, PIECES, ROOM, MAIL, INTERESTS, WAITS, WINDOWS, STOPS, TALK,
 ];

@@ -61,6 +61,9 @@ impl Plain {
             return Err(Undone::Refused(Why::UnknownLane(self.shape.lanes)));
         };
         let samples = self.samples(rope)?;
+        if self.taking(lane).is_ok() {
+            return Err(Undone::Refused(Why::LaneRecording));
+        }
         if jobs.len() >= MOST_JOBS {
             return Err(Undone::Refused(Why::QueueFull));
         }

@@ -25,14 +25,20 @@ pub struct Plain {
     pub(crate) made: u64,
     /// The jobs of each lane, in order.
     pub(crate) lanes: Vec<VecDeque<Job>>,
+    /// The bytes of each lane's open recording.
+    pub(crate) takings: Vec<Option<Vec<u8>>>,
+    /// The bytes of a recording whose End is in doubt.
+    pub(crate) doubted: Option<Vec<u8>>,
 }
 
 impl Plain {
     /// The state of a disk that was just formatted in this shape.
     pub fn new(alloc: Global, shape: &Shape) -> Result<Plain, NoMemory> {
         let mut lanes = Vec::new(alloc);
+        let mut takings = Vec::new(alloc);
         for _ in 0..shape.lanes {
             lanes.push(VecDeque::new(alloc))?;
+            takings.push(None)?;
         }
         Ok(Plain {
             alloc,
@@ -43,10 +49,12 @@ impl Plain {
             next: 1,
             made: 0,
             lanes,
+            takings,
+            doubted: None,
         })
     }
 
-    /// The reply to a call, which is done. `None` is for a call that it cannot do, where nothing is done: Begin, Add, End, a landing, and a recording of what no tape has.
+    /// The reply to a call, which is done. `None` is for a call that it cannot do, where nothing is done: a landing, but of an End in doubt, and a recording of what no tape has.
     pub fn eval(&mut self, tapes: &Tapes, call: &Call) -> Result<Option<Reply>, NoMemory> {
         match self.answer(tapes, call) {
             Ok(reply) => Ok(Some(reply)),
@@ -80,11 +88,25 @@ impl Plain {
             Call::Census(keys) => self.census(keys),
             Call::Advance(moment) => self.advance(*moment),
             Call::Sweep(limit) => self.sweep(*limit),
-            Call::Begin(_) | Call::Add(_, _) | Call::End(_) | Call::Landed => Err(Undone::Strange),
+            Call::Begin(lane) => self.begin(*lane),
+            Call::Add(lane, take) => self.add(tapes, *lane, *take),
+            Call::End(lane) => self.end(*lane),
+            Call::Landed => self.land(),
         }
     }
 
-    /// How many blocks nothing uses: no live rope, and no passage of a job that is not stopped.
+    /// Its disk is opened again: no lane has a job or an open recording, and nothing is in doubt.
+    pub fn reopen(&mut self) {
+        for jobs in self.lanes.iter_mut() {
+            jobs.clear();
+        }
+        for taking in self.takings.iter_mut() {
+            *taking = None;
+        }
+        self.doubted = None;
+    }
+
+    /// How many blocks nothing uses: no live rope, no passage of a job that is not stopped, and no open recording.
     pub fn free(&self) -> Result<u32, NoMemory> {
         let mut blocks = Vec::new(self.alloc);
         for rope in &self.ropes {
@@ -97,7 +119,13 @@ impl Plain {
                 }
             }
         }
-        let used = u32::try_from(blocks.len()).unwrap_or(u32::MAX);
+        let mut used = u32::try_from(blocks.len()).unwrap_or(u32::MAX);
+        for taking in self.takings.iter().chain([&self.doubted]) {
+            if let Some(bytes) = taking {
+                let taken = bytes.len().div_ceil(self.shape.block as usize);
+                used = used.saturating_add(u32::try_from(taken).unwrap_or(u32::MAX));
+            }
+        }
         Ok(self.shape.blocks.saturating_sub(used))
     }
 }

@@ -24,8 +24,8 @@ pub struct Rope {
     pub wait: u32,
 }
 
-// A length that a rope can have.
-fn not_long(length: u64) -> Result<(), Why> {
+/// A length that a rope can have.
+pub(crate) fn not_long(length: u64) -> Result<(), Why> {
     if length > MOST_SAMPLES {
         return Err(Why::TooLong(length));
     }
@@ -52,16 +52,16 @@ impl Plain {
         Err(Why::UnknownRope(id))
     }
 
-    // The number of the next rope.
-    fn next_rope(&self) -> Result<RopeId, Why> {
+    /// The number of the next rope.
+    pub(crate) fn next_rope(&self) -> Result<RopeId, Why> {
         match RopeId::new(self.next) {
             Some(id) => Ok(id),
             None => Err(Why::IdsSpent),
         }
     }
 
-    // A rope of these samples comes.
-    fn add_rope(&mut self, id: RopeId, samples: Vec<Sample>) -> Result<Reply, Undone> {
+    /// A rope of these samples comes.
+    pub(crate) fn add_rope(&mut self, id: RopeId, samples: Vec<Sample>) -> Result<Reply, Undone> {
         let length = count_of(&samples);
         self.ropes.push(Rope {
             id,

@@ -60,6 +60,8 @@ fn asked(alloc: Global, ask: Ask) -> Result<Call, Fail> {
         Ask::Advance(moment) => Ok(Call::Advance(Moment(u64::from(moment)))),
         Ask::Sweep(limit) => Ok(Call::Sweep(limit)),
         Ask::Begin(lane) => Ok(Call::Begin(Lane(lane))),
+        Ask::Add(lane, len) => Ok(Call::Add(Lane(lane), first(len))),
+        Ask::End(lane) => Ok(Call::End(Lane(lane))),
         Ask::Landed => Ok(Call::Landed),
     }
 }

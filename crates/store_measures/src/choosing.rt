@@ -1,6 +1,6 @@
 //! Which measurements a word asks for.
 
-use crate::{asking, editing, growing, opening, plays, recording};
+use crate::{adding, asking, editing, growing, opening, plays, recording};
 use bench_report::report::is_asked;
 use std::fs::File;
 use std::io;
@@ -12,6 +12,9 @@ fn measure_disks<R: Print + Clock + AllocGlobal + Files<File = File>>(
 ) -> io::Result<()> {
     if is_asked(word, "record") {
         recording::measure(rt)?;
+    }
+    if is_asked(word, "parts") {
+        adding::measure(rt)?;
     }
     if is_asked(word, "plays") {
         plays::measure(rt)?;
@@ -35,7 +38,7 @@ fn measure_numbers<R: Print + Clock + AllocGlobal>(rt: &R, word: &str) -> io::Re
     Ok(())
 }
 
-/// Makes the measurements of the store that a word asks for: `record`, `plays`, `edits`, `open`, `growth`, `calls`, or `all`; none by another word.
+/// Makes the measurements of the store that a word asks for: `record`, `parts`, `plays`, `edits`, `open`, `growth`, `calls`, or `all`; none by another word.
 pub fn measure<R: Print + Clock + AllocGlobal + Files<File = File>>(
     rt: &R,
     word: &str,

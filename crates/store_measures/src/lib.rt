@@ -1,6 +1,7 @@
 //! Measurements of the store, each as a ratio to the same work made bare, in one run, or by the number of rows or of changes.
 #![tactic(auto)]
 
+mod adding;
 mod asking;
 mod choosing;
 mod editing;

@@ -14,7 +14,7 @@ use std::sync::Arc;
 use voice_model::{Call, Reply, Tapes};
 use voice_outside::Disk;
 use voice_store::Store;
-use voice_units::{NoMemory, RopeId, Shape, Take};
+use voice_units::{Lane, NoMemory, RopeId, Shape, Take};
 
 /// No tapes.
 pub fn no_tapes(alloc: Global) -> io::Result<Arc<Tapes, Global>>
@@ -85,6 +85,17 @@ pub fn record<D: Disk>(store: &mut Store<D>, tapes: &Tapes, take: Take) -> bool
         return false;
     }
     ask(store, Call::Record(take))
+}
+
+/// Adds samples of the tapes to a lane's open recording.
+pub fn add<D: Disk>(store: &mut Store<D>, tapes: &Tapes, lane: Lane, take: Take) -> bool
+    requires { tapes_in store.old ≡ tapes.now }
+    ensures { tapes_in store.new ≡ tapes_in store.old }
+{
+    if !tapes.has(take) {
+        return false;
+    }
+    ask(store, Call::Add(lane, take))
 }
 
 /// Makes a rope of `len` samples of another one, from `start` on.
