@@ -1,13 +1,14 @@
 #!/usr/bin/env python3
-"""A random script of 60 lines, and a plain model of what it does, on lists of samples.
+"""A random script of 80 lines, and a plain model of what it does, on lists of samples.
 disk_model.py SEED FOLDER          writes the script random.vs, its sample files and a disk of zero bytes into the folder, and prints the words of `format` for it
 disk_model.py SEED FOLDER PRINTED  compares what the program printed, and FOLDER/voice.disk as read_disk.py reads it, with the model
 What is printed names the callers in the order of their calls, which need not be that of the lines: callers on threads choose it.
-Disks of odd seeds have small areas, so that the journal switches and gets full, and those of even seeds few blocks; each fifth script plays much."""
+Disks of odd seeds have small areas, so that the journal switches and gets full, and those of even seeds few blocks; each fifth script plays much, and
+each seventh records much in parts."""
 import sys
 from read_disk import Disk
 
-BLOCK, GRACES, LANES, JOBS = 8, [30, 10, 20, 40], 3, 8
+BLOCK, GRACES, LANES, JOBS, LINES = 8, [30, 10, 20, 40], 3, 8, 80
 LENGTHS = [0, 1, 7, 8, 9, 20, 64, 100]
 CLASSES = ['held', 'until', 'listed']
 
@@ -25,6 +26,9 @@ class Draws:
 def file_bytes(k): return bytes((7 * i + 31 * k + 1) % 256 for i in range(LENGTHS[k]))
 
 
+def blocks_for(n): return -(-n // BLOCK)
+
+
 class Model:
     """Ropes are lists of samples (byte, voice file, place); nothing is shared and nothing is counted beforehand."""
     def __init__(self, seed):
@@ -32,14 +36,18 @@ class Model:
         self.ropes, self.rows, self.moment, self.next = {}, {}, 0, 1      # ropes: number to [samples, idle, last]
         self.left, self.epoch = self.area - 17, 1
         self.lanes, self.job = [[] for _ in range(LANES)], 0              # the lanes' jobs: the passage, none where it is stopped
+        self.takings = [None] * LANES                                     # the bytes of the lanes' open recordings, none where there is none
+        self.files = {}                                                   # voice file to its length
     def copy(self):
         other = Model(self.seed)
-        other.__dict__.update(self.__dict__, ropes={n: list(r) for n, r in self.ropes.items()}, rows=dict(self.rows))
+        other.__dict__.update(self.__dict__, ropes={n: list(r) for n, r in self.ropes.items()}, rows=dict(self.rows), files=dict(self.files))
         return other
     def pieces(self, samples):
         return sum(k == 0 or samples[k - 1][1:] != (f, p - 1) for k, (_, f, p) in enumerate(samples))
     def used(self): return {(f, p // BLOCK) for samples, _, _ in self.ropes.values() for _, f, p in samples}
     def held(self): return {(f, p // BLOCK) for lane in self.lanes for samples in lane for _, f, p in samples or []}
+    def free(self): return self.blocks - len(self.used() | self.held()) - sum(blocks_for(len(data)) for data in self.takings if data is not None)
+    def crowded(self, need): return f'no no-room {need} {self.free()}' if need > self.free() else None
     def base(self):
         used = self.used()
         return (22 + 18 * len({f for f, _ in used}) + 8 * len(used) + sum(25 + 16 * self.pieces(r[0]) for r in self.ropes.values())
@@ -57,6 +65,11 @@ class Model:
     def add(self, samples): self.ropes[self.next], self.next = [samples, self.moment, 0], self.next + 1
     def edit(self, samples):
         return self.commit(lambda m: m.add(samples), 11 + 16 * self.pieces(samples), f'rope {self.next} length {len(samples)}')
+    def record(self, data):
+        def come(m):
+            m.files[m.next] = len(data)
+            m.add([(b, m.next, p) for p, b in enumerate(data)])
+        return self.commit(come, 17 + 4 * blocks_for(len(data)), f'rope {self.next} length {len(data)}')
     def drop(self, rows):
         for row in rows:
             rope, _ = self.rows.pop(row)
@@ -77,11 +90,8 @@ class Model:
     def call(self, verb, *a):
         samples = lambda n: self.ropes[n][0]
         if verb == 'record':
-            data, need, free = file_bytes(a[0]), -(-LENGTHS[a[0]] // BLOCK), self.blocks - len(self.used() | self.held())
-            if need > free:
-                return f'no no-room {need} {free}'
-            made = [(b, self.next, p) for p, b in enumerate(data)]
-            return self.commit(lambda m: m.add(made), 17 + 4 * need, f'rope {self.next} length {len(data)}')
+            data = file_bytes(a[0])
+            return self.crowded(blocks_for(len(data))) or self.record(data)
         if verb == 'concat':
             return self.unknown(*a) or self.edit([s for n in a for s in samples(n)])
         if verb == 'sub' or verb == 'replace':
@@ -108,12 +118,14 @@ class Model:
         if verb == 'census':
             gone = [row for row in self.rows if row[0] == 'listed' and row[1] not in a]
             return self.commit(lambda m: m.drop(gone), 3 + sum(1 + len(key) for _, key in gone), f'number {len(gone)}') if gone else 'number 0'
-        if verb in ('play', 'stop') and a[0] >= LANES:
+        if verb in ('play', 'stop', 'begin', 'add', 'end') and a[0] >= LANES:
             return f'no unknown-lane {LANES}'
         if verb == 'play':
             lane, n, start, length = a
-            if self.unknown(n) or len(self.lanes[lane]) == JOBS:
-                return self.unknown(n) or 'no queue-full'
+            if self.unknown(n) or self.takings[lane] is not None:
+                return self.unknown(n) or 'no lane-recording'
+            if len(self.lanes[lane]) == JOBS:
+                return 'no queue-full'
             if start + length > len(samples(n)):
                 return f'no bad-interval {len(samples(n))}'
             self.lanes[lane].append(samples(n)[start:start + length])
@@ -123,6 +135,23 @@ class Model:
             count = sum(samples is not None for samples in self.lanes[a[0]])
             self.lanes[a[0]] = [None] * len(self.lanes[a[0]])
             return f'number {count}'
+        if verb == 'begin':
+            if self.takings[a[0]] is not None or self.lanes[a[0]]:
+                return 'no lane-recording' if self.takings[a[0]] is not None else f'no lane-busy {len(self.lanes[a[0]])}'
+            self.takings[a[0]] = b''
+            return 'done'
+        if verb in ('add', 'end') and self.takings[a[0]] is None:
+            return 'no no-recording'
+        if verb == 'add':
+            before, data = self.takings[a[0]], self.takings[a[0]] + file_bytes(a[1])
+            refused = self.crowded(blocks_for(len(data)) - blocks_for(len(before)))
+            self.takings[a[0]] = before if refused else data
+            return refused or f'number {len(data)}'
+        if verb == 'end':
+            reply = self.record(self.takings[a[0]])
+            if reply.startswith('rope'):
+                self.takings[a[0]] = None
+            return reply
         if verb == 'advance':
             return 'done' if a[0] <= self.moment else self.commit(lambda m: setattr(m, 'moment', a[0]), 9, 'done')
         rows, gone = self.expired(), self.due(a[0])       # a sweep
@@ -139,8 +168,13 @@ def calls(seed):
         length = len(m.ropes[n][0]) if n in m.ropes else 9
         start = d.draw(length + 1)
         return start, d.draw(length - start + 2)
-    for k in range(60):
-        o, caller = 12 if seed % 5 == 0 and d.draw(2) else d.draw(16), 1 + d.draw(3)
+    def kind():
+        if seed % 5 == 0 and d.draw(2):
+            return 12
+        return 16 if seed % 7 == 0 and d.draw(2) else d.draw(19)
+    def lane(lanes): return lanes[d.draw(len(lanes))] if lanes and d.draw(8) else d.draw(LANES + 1)
+    for k in range(LINES):
+        o, caller = kind(), 1 + d.draw(3)
         if o < 3:
             call = ('record', d.draw(8))
             text = f'record f{call[1]}'
@@ -160,13 +194,20 @@ def calls(seed):
             call = ('advance', 8 * k) if o < 11 else ('sweep', d.draw(5))
             text = f'{call[0]} {call[1]}'
         elif o < 14:
-            n = rope()
-            lane = d.draw(3) and d.draw(LANES + 1)
-            call = ('play', lane, n, *interval(n)) if o == 12 or d.draw(3) else ('stop', lane)
+            n, on = rope(), d.draw(3) and d.draw(LANES + 1)
+            call = ('play', on, n, *interval(n)) if o == 12 or d.draw(3) else ('stop', on)
             text = ' '.join(map(str, call)).replace('play', 'queue')
         elif o == 14:
             call = ('lookup', (CLASSES[d.draw(3)], key())) if d.draw(2) else ('length', rope())
             text = f'{call[0]} ' + (f'{call[1][0]} {call[1][1].decode()}' if call[0] == 'lookup' else str(call[1]))
+        elif o > 15:
+            part = d.draw(5)
+            taking, quiet = [n for n in range(LANES) if m.takings[n] is not None], [n for n in range(LANES) if m.takings[n] is None and not m.lanes[n]]
+            if part == 0 or not taking and d.draw(8):
+                call = ('begin', lane(quiet))
+            else:
+                call = ('add', lane(taking), d.draw(8)) if part < 4 else ('end', lane(taking))
+            text = f'{call[0]} {call[1]}' + (f' f{call[2]}' if call[0] == 'add' else '')
         else:
             call = ('census',) + tuple({key(): None for _ in range(1 + d.draw(4))})
             text = 'census ' + ' '.join(one.decode() for one in call[1:])
@@ -217,6 +258,10 @@ def main(seed, folder, printed=None):
     differs('rows', [(CLASSES[c - 1], key, rope, note) for (c, key), (rope, note) in disk.rows.items()], [row + kept for row, kept in m.rows.items()])
     differs('numbers', (disk.moment, disk.next, disk.left, disk.epoch), (m.moment, m.next, m.left, m.epoch))
     differs('blocks', set(disk.addresses), m.used())
+    for (file, index), address in disk.addresses.items():
+        block = disk.image[disk.data + BLOCK * address:disk.data + BLOCK * (address + 1)]
+        behind = max(0, BLOCK * (index + 1) - m.files[file])
+        differs('behind the last sample', block[BLOCK - behind:], bytes(behind))
 
 
 if __name__ == '__main__':

@@ -97,7 +97,7 @@ expect 'help is a page' [ "$("$top/voice" --help | wc -l)" -le 40 ]
 
 # The lines that help shows are a script.
 "$top/voice" --help | sed -n 's/^  CALLER .*  \([12] .*\)$/\1/p' >"$work/help.vs"
-expect 'help shows fifteen lines' [ "$(wc -l <"$work/help.vs")" = 15 ]
+expect 'help shows seventeen lines' [ "$(wc -l <"$work/help.vs")" = 17 ]
 rm -f "$work/voice.disk"
 expect 'a run of which does all' sh -c "cd '$work' && ! '$top/voice' run help.vs | grep -q ': no'"
 expect 'version' [ "$("$top/voice" --version)" = 'voice 0.1.0' ]

@@ -1,5 +1,5 @@
 #!/bin/sh
-# Random scripts of sixty lines against a plain model of lists: random_runs.sh [COUNT], line by line and, each fourth, with callers on threads. What is
+# Random scripts of eighty lines against a plain model of lists: random_runs.sh [COUNT], line by line and, each fourth, with callers on threads. What is
 # printed and what stands on the disk is the model's, in the order in which the calls were made. It needs python3.
 set -eu
 . "$(dirname "$0")/lib.sh"
@@ -18,8 +18,8 @@ compare() {
 
 count=${1:-200}
 for seed in $(seq "$count"); do
-    compare "$seed" || expect "sixty random lines of seed $seed" false
-    [ "$((seed % 4))" != 0 ] || compare "$seed" --threads || expect "sixty random lines of seed $seed on threads" false
+    compare "$seed" || expect "eighty random lines of seed $seed" false
+    [ "$((seed % 4))" != 0 ] || compare "$seed" --threads || expect "eighty random lines of seed $seed on threads" false
 done
 expect "$count random scripts, and each fourth on threads" true
 finish
