@@ -110,7 +110,7 @@ fn a_crash_leaves_what_was_acknowledged(rt: HostRuntime) -> Result<(), Fail> {
 }
 
 // Fewer of them.
-const FEW: &[u16] = &[0, 1, 7];
+const FEW: &[u16] = &[0, 1, 7, 255];
 
 // Asserts what crashes leave at a few moments from a call on that fails.
 fn assert_crashes_behind<R: Threads + Wait + Sync + Abort>(

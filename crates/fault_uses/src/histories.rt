@@ -21,12 +21,13 @@ fn is_of_lane(call: &Call) -> bool {
     matches!(call, Call::Play(..) | Call::Feed(..) | Call::Stop(_))
 }
 
-// The call by which the evaluator does what was in doubt, once it lands: an End has closed its recording before.
-fn landing_of(call: &Call) -> &Call {
-    match call {
-        Call::End(_) => &Call::Landed,
-        other => other,
-    }
+// The evaluator does what was in doubt, as it lands: an End has closed its recording before.
+fn land(plain: &mut Plain, tapes: &Tapes, call: &Call) -> Result<(), Fail> {
+    let _landed = match call {
+        Call::End(_) => reply_of(plain, tapes, &Call::Landed)?,
+        other => reply_of(plain, tapes, other)?,
+    };
+    Ok(())
 }
 
 // The evaluator does a call, and has to answer as its entry says.
@@ -58,7 +59,7 @@ fn follow<'a>(
                 let Some(call) = doubt else {
                     return Err(Fail::new("nothing was in doubt"));
                 };
-                let _landed = reply_of(plain, tapes, landing_of(call))?;
+                land(plain, tapes, call)?;
                 doubt = None;
             }
             (_, Reply::No(Why::DiskFault | Why::JournalFull(_, _))) => {}
@@ -96,7 +97,7 @@ pub fn shown_after(
     let doubt = follow(alloc, &mut plain, &tapes, history)?;
     if let Some(call) = doubt {
         if landing {
-            let _landed = reply_of(&mut plain, &tapes, landing_of(call))?;
+            land(&mut plain, &tapes, call)?;
         }
     }
     plain.reopen();

@@ -67,7 +67,7 @@ fn assert_shelf<R: Threads + Wait + Sync + Abort>(
     } else {
         b""
     };
-    assert_eq!(rt; ended.history.len(), 11, "{place}");
+    assert_eq!(rt; ended.history.len(), 19, "{place}");
     assert!(rt; sink.bytes() == printed, "{place}");
     assert_shows(rt, alloc, Start::New, &ended, &place)
 }
@@ -126,7 +126,7 @@ fn assert_ended<R: Threads + Wait + Sync + Abort, O: Sink>(
     )?;
     let out = out_of(&mut shelf)?;
     assert_eq!(rt; ended.status, wanted, "{place}");
-    assert_eq!(rt; ended.history.len(), 11, "{place}");
+    assert_eq!(rt; ended.history.len(), 19, "{place}");
     assert_heard(rt, &ended.history, &out, place);
     assert_shows(rt, alloc, Start::New, &ended, place)
 }
