@@ -74,13 +74,9 @@ awk 'BEGIN { print "1 record hello.ul"; for (c = 1; c <= 8; c++) for (i = 0; i <
     print "1 v" c i " = lookup held k" c "." i
     print "1 play 0 v" c i " 0 20 kept" c i
 } }' >"$work/kept.vs"
-voice format --blocks 1000 --area 65536 --grace 20
-last=0
-heard=0
-whole=yes
-for k in $(seq 1 30); do
-    # moments rise from run to run, so that the sweeps of each make room again, however far it comes
-    awk -v k="$k" 'BEGIN { for (i = 0; i < 40; i++) for (c = 1; c <= 8; c++) {
+# busy K: the script of run K. Moments rise from run to run, so that the sweeps of each make room again, however far it comes.
+busy() {
+    awk -v k="$1" 'BEGIN { for (i = 0; i < 40; i++) for (c = 1; c <= 8; c++) {
         print c " a = record hello.ul"
         print c " retain held k" c "." i % 3 " a -"
         print c " play " c - 1 " a 0 20 out" c
@@ -88,9 +84,22 @@ for k in $(seq 1 30); do
         print c " sweep 4"
         print c " forget held k" c "." (i + 1) % 3
     } }' >"$work/busy.vs"
+}
+voice format --blocks 1000 --area 65536 --grace 20
+busy 0
+begun=$(date +%s%N)
+voice run busy.vs --threads >/dev/null
+# how many milliseconds a run takes on this machine, at most a second: the kills lie within it
+lasts=$((($(date +%s%N) - begun) / 1000000 + 1))
+[ "$lasts" -lt 1000 ] || lasts=1000
+last=0
+heard=0
+whole=yes
+for k in $(seq 1 30); do
+    busy "$k"
     (cd "$work" && exec "$top/voice" run busy.vs --threads) >"$work/.out" 2>"$work/.err" &
     pid=$!
-    sleep "0.$(awk -v k="$k" 'BEGIN { srand(k); printf "%03d", rand() * 500 }')"
+    sleep "$(awk -v k="$k" -v lasts="$lasts" 'BEGIN { srand(k); printf "%.3f", rand() * lasts / 1000 }')"
     kill -9 "$pid" 2>/dev/null || true
     wait "$pid" 2>/dev/null || true
     voice audit >/dev/null || whole="run $k leaves damage"
