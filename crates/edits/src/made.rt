@@ -6,15 +6,10 @@ ghost use Rattle.voice_model.specs.declared.calls.Why.TheVariants as reasons;
 
 use rope_algebra::Pieces;
 use voice_model::Why;
-
-/// The most samples of a rope.
-const MOST_SAMPLES: u64 = 1 << 30;
+use voice_units::{LAST_ROPE, MOST_SAMPLES};
 
 /// The most pieces of a rope.
 const MOST_PIECES: u32 = 4096;
-
-/// The greatest number of a rope.
-const LAST_ROPE: u64 = 1 << 48;
 
 /// What an edit makes, or why it is refused before the journal's room is asked.
 #[derive(Drop)]

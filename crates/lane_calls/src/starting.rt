@@ -22,13 +22,7 @@ use recovery::Parts;
 use rope_algebra::Pieces;
 use rope_table::RopeTable;
 use voice_model::Why;
-use voice_units::{JobId, Lane, NoMemory, RopeId, Shape};
-
-/// The most jobs of a lane.
-const MOST_JOBS: u32 = 8;
-
-/// The most live ropes beside which passages are held: the uses of a block, by them and by 2^16 held passages, are counted in 32 bits.
-const MOST_ROPES: usize = 4_294_901_757;
+use voice_units::{JobId, Lane, MOST_JOBS, MOST_ROPES, NoMemory, RopeId, Shape};
 
 /// The refusal where an interval does not lie in a rope of this length.
 fn if_outside(start: u32, len: u32, length: u32) -> Option<Why>

@@ -20,17 +20,7 @@ use recovery::Parts;
 use rope_algebra::Pieces;
 use std::alloc::Global;
 use voice_blocks::{BlockMap, Owner};
-use voice_units::{NoMemory, Piece, RopeId, Shape};
-
-/// How many blocks so many samples take.
-fn blocks_needed(block: u32, len: u32) -> u32
-    requires least { 1 ≤ block }
-    requires most { len ≤ 2 ^ 30 }
-    requires block_limit { block ≤ 8192 }
-    ensures { result ≡ blocks_for block len }
-{
-    (len + (block - 1)) / block
-}
+use voice_units::{NoMemory, Piece, RopeId, Shape, blocks_needed};
 
 /// The addresses of the first blocks of a file, in rising index.
 fn addresses_of(
@@ -105,7 +95,7 @@ pub fn ready_recording(
             len,
         },
     )?;
-    let count = blocks_needed(shape.block, len);
+    let count = blocks_needed(shape.block, len as u64);
     make_room(parts, count)?;
     // so many are free
     let _taken = parts.blocks.take(Owner::File(id), count);

@@ -7,10 +7,7 @@ ghost use Rattle.next_ropes.specs.Ready.{most_held};
 ghost use Rattle.voice_model.specs.Replay.{Rebuilt};
 
 use recovery::Parts;
-use voice_units::NoMemory;
-
-/// The most live ropes to which one more is added: the uses of a block, by them and by 2^16 held passages, are counted in 32 bits.
-const MOST_ROPES: usize = 4_294_901_757;
+use voice_units::{MOST_ROPES, NoMemory};
 
 /// Makes room for one more rope and so many blocks that nothing uses yet. After NoMemory too the tables show what they did. More than 2^32 - 2^16 - 3 ropes count as want of memory.
 pub(crate) fn make_room(parts: &mut Parts, blocks: u32) -> Result<(), NoMemory>

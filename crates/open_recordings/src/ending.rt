@@ -22,17 +22,7 @@ use next_ropes::{NextRope, copy_with_room};
 use recovery::Parts;
 use rope_algebra::Pieces;
 use std::alloc::Global;
-use voice_units::{Lane, NoMemory, Piece, RopeId, Shape};
-
-/// How many blocks so many samples take.
-fn blocks_needed(block: u32, len: u32) -> u32
-    requires least { 1 ≤ block }
-    requires most { len ≤ 2 ^ 30 }
-    requires block_limit { block ≤ 8192 }
-    ensures { result ≡ blocks_for block len }
-{
-    (len + (block - 1)) / block
-}
+use voice_units::{Lane, NoMemory, Piece, RopeId, Shape, blocks_needed};
 
 /// The rope of these pieces, whose blocks are those of a lane's open recording.
 fn ended_recording(
@@ -92,7 +82,7 @@ pub fn ready_ended(
             len,
         },
     )?;
-    let count = blocks_needed(shape.block, len);
+    let count = blocks_needed(shape.block, len as u64);
     make_room(parts, count)?;
     let next = ended_recording(alloc, parts, lane, pieces, count)?;
     Ok(next)

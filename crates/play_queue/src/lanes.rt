@@ -10,10 +10,7 @@ use super::jobs::Job;
 use circular_buffer::HeapCircularBuffer;
 use std::alloc::Global;
 use std::marker::Model;
-use voice_units::{Lane, NoMemory};
-
-/// The most jobs of a lane, the one being played and stopped ones included.
-const MOST_JOBS: usize = 8;
+use voice_units::{Lane, MOST_JOBS, NoMemory};
 
 /// A queue of jobs for each lane. Contracts see the list of the lanes' lists of jobs, the first job of each in front.
 #[derive(Drop)]
@@ -93,7 +90,7 @@ impl Queues {
     {
         let mut all = Vec::with_capacity(alloc, usize::from(lanes))?;
         for _ in 0..lanes {
-            all.push(HeapCircularBuffer::with_capacity(alloc, MOST_JOBS)?)?;
+            all.push(HeapCircularBuffer::with_capacity(alloc, MOST_JOBS as usize)?)?;
         }
         Ok(Queues { lanes: all })
     }

@@ -5,10 +5,7 @@ ghost use Rattle.voice_units.specs.Spots.{spots_of, stretches};
 
 use rope_algebra::Pieces;
 use std::alloc::Global;
-use voice_units::{NoMemory, Piece};
-
-// The most stretches that a window has.
-const WINDOW_STRETCHES: u32 = 4;
+use voice_units::{NoMemory, Piece, WINDOW_STRETCHES};
 
 /// The first four stretches of what is not heard yet of a passage.
 pub fn window_of(

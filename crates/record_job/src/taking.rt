@@ -1,9 +1,11 @@
 //! An open recording.
 
 ghost use Rattle.std.specs.Prelude.{◌≡◌, ℕ, ◌+◌, ◌%◌, ◌<◌, ◌≤◌, ◌^◌, [], ◌++◌, length, IfOk, OnErr, OnOk};
+ghost use Rattle.std.specs.Cow.{cow_slice_items};
 ghost use Rattle.record_job.specs.Recording.{empty, added, whole_blocks, filled_up};
 
 use std::alloc::Global;
+use std::borrow::CowSlice;
 use std::marker::Model;
 use voice_units::{Lane, NoMemory};
 
@@ -44,10 +46,10 @@ impl Taking {
         })
     }
 
-    /// Takes bytes, and gives the whole blocks that are now complete, one after another. After want of memory nothing changed.
-    pub fn add(&mut self, bytes: &[u8]) -> Result<Vec<u8>, NoMemory>
+    /// Takes bytes, and gives the whole blocks that are now complete, one after another: a front of these bytes where none before them were kept back, else a copy. After want of memory nothing changed.
+    pub fn add<'a>(&mut self, bytes: &'a [u8]) -> Result<CowSlice<'a, u8, Global>, NoMemory>
         requires { self.old.total + length bytes.now ≤ 2 ^ 30 }
-        ensures given { IfOk result (λ blocks. blocks.items ≡ whole_blocks self.old.block (self.old.rest ++ bytes.now)) }
+        ensures given { IfOk result (λ blocks. cow_slice_items blocks ≡ whole_blocks self.old.block (self.old.rest ++ bytes.now)) }
         ensures kept { OnOk result (self.new ≡ added self.old bytes.now) }
         ensures err { OnErr result (self.new ≡ self.old) }
     {
@@ -55,16 +57,13 @@ impl Taking {
         let before = self.rest.len();
         let all = before + bytes.len();
         let whole = all - all % block;
-        let alloc = *self.rest.allocator();
         if whole == 0 {
             self.rest.extend_from_slice(bytes)?;
             self.total += bytes.len() as u32;
-            return Ok(Vec::new(alloc));
+            return Ok(CowSlice::Borrowed(&bytes[..0]));
         }
         let (last, rest) = bytes.split_at(whole - before);
-        let mut blocks = Vec::with_capacity(alloc, whole)?;
-        blocks.extend_from_slice(&self.rest)?;
-        blocks.extend_from_slice(last)?;
+        let blocks = joined(&self.rest, last)?;
         self.rest.clear();
         self.rest.extend_from_slice(rest)?;
         self.total += bytes.len() as u32;
@@ -115,4 +114,18 @@ impl Taking {
         prove!(filled.is_ok());
         rest
     }
+}
+
+// Bytes behind those of a front: they themselves where the front is empty, else a copy of all.
+fn joined<'a>(front: &Vec<u8>, bytes: &'a [u8]) -> Result<CowSlice<'a, u8, Global>, NoMemory>
+    ensures { IfOk result (λ all. cow_slice_items all ≡ front.now.items ++ bytes.now) }
+{
+    if front.is_empty() {
+        return Ok(CowSlice::Borrowed(bytes));
+    }
+    let alloc = *front.allocator();
+    let mut all = Vec::with_capacity(alloc, front.len() + bytes.len())?;
+    all.extend_from_slice(front)?;
+    all.extend_from_slice(bytes)?;
+    Ok(CowSlice::Owned(all))
 }

@@ -1,8 +1,10 @@
 use super::Taking;
+use std::alloc::Global;
+use std::borrow::CowSlice;
 use voice_units::{Lane, NoMemory};
 
 // A recording that would grow too long is answered as want of memory, which fails the test.
-fn added(taking: &mut Taking, bytes: &[u8]) -> Result<Vec<u8>, NoMemory> {
+fn added<'a>(taking: &mut Taking, bytes: &'a [u8]) -> Result<CowSlice<'a, u8, Global>, NoMemory> {
     if bytes.len() > 1 << 30 || taking.total() as usize + bytes.len() > 1 << 30 {
         return Err(NoMemory);
     }

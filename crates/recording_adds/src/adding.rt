@@ -19,14 +19,13 @@ ghost use Rattle.open_recordings.specs.Blocks.{HandsOut};
 ghost use Rattle.recording_calls.specs.Shown.{ShowsRecordings, MayAdd, recording_at, total_in};
 ghost use Rattle.recording_adds.specs.Adds.{HoldsBlocks, WroteOwn, HasWhole, MakesCalls, OnAdded, OnFault, OnNone, blocks_more, whole_more};
 
-use crate::blocks::{blocks_needed, make_rooms};
-use crate::writing::write_whole;
+use crate::writing::write_taken;
 use open_recordings::{grow, shrink};
 use recording_calls::{Added, Recordings};
 use recovery::Parts;
 use std::alloc::Global;
 use voice_outside::Disk;
-use voice_units::{Lane, NoMemory, Shape};
+use voice_units::{Lane, NoMemory, Shape, blocks_needed};
 
 /// Takes addresses for the blocks that a recording of so many bytes takes with n bytes more, and writes the blocks that become whole. After a device fault its addresses are given back.
 fn take_and_write<D: Disk>(
@@ -58,13 +57,13 @@ fn take_and_write<D: Disk>(
     ensures reached { OnFault result (0 < whole_more shape.now.block total n) }
     ensures still { OnErr result (disk.new ≡ disk.old) }
 {
-    let from = blocks_needed(shape.block, total);
-    let more = blocks_needed(shape.block, total + n) - from;
+    let from = blocks_needed(shape.block, total as u64);
+    let more = blocks_needed(shape.block, (total + n) as u64) - from;
     let first = total / shape.block;
     let count = (total + n) / shape.block - first;
-    let rooms = make_rooms(alloc, count, shape.block)?;
+    let list = Vec::with_capacity(alloc, count as usize)?;
     let _taken = grow(alloc, parts, lane, more)?;
-    let written = write_whole(
+    let written = write_taken(
         shape,
         disk,
         &parts.blocks,
@@ -72,7 +71,7 @@ fn take_and_write<D: Disk>(
         first,
         count,
         samples,
-        rooms,
+        list,
     );
     let Ok(()) = written else {
         shrink(parts, lane, from, more);

@@ -2,7 +2,6 @@
 #![tactic(auto)]
 
 mod adding;
-mod blocks;
 mod writing;
 
 pub use adding::add;

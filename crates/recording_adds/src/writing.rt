@@ -7,15 +7,14 @@ ghost use Rattle.voice_blocks.specs.declared.owner.Owner.TheVariants as owners;
 ghost use Rattle.recording_writer.specs.Wrote.{WroteAt, byte_place};
 ghost use Rattle.open_recordings.specs.Blocks.{AreAddresses};
 
-use crate::blocks::Rooms;
 use open_recordings::addresses_of;
-use recording_writer::write_samples;
+use recording_writer::write_whole;
 use voice_blocks::BlockMap;
 use voice_outside::Disk;
 use voice_units::{Failed, Lane, Shape};
 
 /// Writes whole blocks at the addresses of so many blocks of a lane's open recording, from an index on. Without a block it makes no device call.
-pub(crate) fn write_whole<D: Disk>(
+pub(crate) fn write_taken<D: Disk>(
     shape: &Shape,
     disk: &mut D,
     blocks: &BlockMap,
@@ -23,15 +22,14 @@ pub(crate) fn write_whole<D: Disk>(
     from: u32,
     count: u32,
     samples: &[u8],
-    rooms: Rooms,
+    list: Vec<u32>,
 ) -> Result<(), Failed>
     requires addresses { (addresses : List ℕ) × AreAddresses blocks.now.holders (owners.Taking lane) from count addresses }
     requires many { length blocks.now.holders ≡ shape.now.blocks }
     requires whole { length samples.now ≡ count * shape.now.block }
     requires limit { from + count < 2 ^ 32 }
-    requires empty { rooms.list.items ≡ [] }
-    requires capacity { count ≤ vec_capacity rooms.list }
-    requires last { length rooms.last.items ≡ shape.now.block }
+    requires empty { list.items ≡ [] }
+    requires capacity { count ≤ vec_capacity list }
     requires fits { bytes_needed shape.now.block shape.now.blocks shape.now.area ≤ (D.told disk.old).size }
     ensures made { MakesAtMost count (D.told disk.old) (D.told disk.new) result }
     ensures reached { OnErr result (0 < count) }
@@ -41,7 +39,6 @@ pub(crate) fn write_whole<D: Disk>(
     if count == 0 {
         return Ok(());
     }
-    let Rooms { list, mut last } = rooms;
     let addresses = addresses_of(blocks, lane, from, count, list);
-    write_samples(shape, disk, &addresses, samples, &mut last)
+    write_whole(shape, disk, &addresses, samples)
 }

@@ -1,6 +1,7 @@
 //! The open recordings of the lanes.
 
 ghost use Rattle.std.specs.Prelude.{◌≡◌, ℕ, ◌≤◌, ◌^◌, List, ◌++◌, length, replicate, slice_set, is_some, Option, Some, None, option_copied, Ok, IfOk, OnErr, IfSome};
+ghost use Rattle.std.specs.Cow.{cow_slice_items};
 ghost use Rattle.voice_units.specs.declared.pieces.Take.{Take};
 ghost use Rattle.voice_model.specs.State.{State, lane_at, quiet_lane};
 ghost use Rattle.voice_model.specs.Tapes.{taken};
@@ -12,6 +13,7 @@ ghost use Rattle.recording_calls.specs.Shown.{ShowsRecordings, MayAdd, recording
 
 use record_job::Taking;
 use std::alloc::Global;
+use std::borrow::CowSlice;
 use std::marker::Model;
 use voice_model::Why;
 use voice_units::{Lane, NoMemory, Shape};
@@ -33,9 +35,9 @@ impl Model for Recordings {
 
 /// An open recording with more bytes, and the whole blocks that got complete.
 #[derive(Drop)]
-pub struct Added {
+pub struct Added<'a> {
     pub taking: Taking,
-    pub blocks: Vec<u8>,
+    pub blocks: CowSlice<'a, u8, Global>,
 }
 
 impl Recordings {
@@ -110,11 +112,11 @@ impl Recordings {
         Ok(None)
     }
 
-    /// The open recording of a lane with more bytes, as a copy, and the whole blocks that get complete.
-    pub fn added(&self, lane: Lane, bytes: &[u8]) -> Result<Added, NoMemory>
+    /// The open recording of a lane with more bytes, as a copy of the few that are kept back, and the whole blocks that get complete: a front of these bytes where none before them were kept back.
+    pub fn added<'a>(&self, lane: Lane, bytes: &'a [u8]) -> Result<Added<'a>, NoMemory>
         requires { MayAdd self.now lane (length bytes.now) }
         ensures taking { IfOk result (λ more. Some more.taking ≡ more_of (recording_at self.now lane) bytes.now) }
-        ensures blocks { (s : State) → ShowsRecordings self.now s → IfOk result (λ more. more.blocks.items ≡ between s.shape.block (length (taking_of s lane)) (taking_of s lane ++ bytes.now)) }
+        ensures blocks { (s : State) → ShowsRecordings self.now s → IfOk result (λ more. cow_slice_items more.blocks ≡ between s.shape.block (length (taking_of s lane)) (taking_of s lane ++ bytes.now)) }
     {
         let Some(open) = self.get(lane) else {
             unreachable!()

@@ -14,23 +14,7 @@ ghost use Rattle.recording_calls.specs.Shown.{ShowsRecordings, MayAdd};
 
 use super::Recordings;
 use voice_model::Why;
-use voice_units::{Lane, Shape};
-
-/// The most samples of a rope.
-const MOST_SAMPLES: u64 = 1 << 30;
-
-/// The greatest number of a rope.
-const LAST_ROPE: u64 = 1 << 48;
-
-/// How many blocks so many samples take.
-fn blocks_needed(block: u32, n: u64) -> u32
-    requires least { 8 ≤ block }
-    requires most { block ≤ 8192 }
-    requires fits { n < 2 ^ 33 }
-    ensures { result ≡ blocks_for block n }
-{
-    ((n + (u64::from(block) - 1)) / u64::from(block)) as u32
-}
+use voice_units::{LAST_ROPE, Lane, MOST_SAMPLES, Shape, blocks_needed};
 
 impl Recordings {
     /// Why a recording may not open on a lane that has so many jobs: the lane is unknown, records, or has a job, in this order.

@@ -1,4 +1,6 @@
 use super::{Added, Recordings};
+use std::alloc::Global;
+use std::borrow::CowSlice;
 use voice_model::Why;
 use voice_units::{Graces, Lane, NoMemory, Shape};
 
@@ -14,7 +16,11 @@ fn small_shape() -> Result<Shape, NoMemory> {
 }
 
 // An add that is refused is answered as want of memory, which fails the test.
-fn add(recordings: &mut Recordings, shape: &Shape, bytes: &[u8]) -> Result<Vec<u8>, NoMemory> {
+fn add<'a>(
+    recordings: &mut Recordings,
+    shape: &Shape,
+    bytes: &'a [u8],
+) -> Result<CowSlice<'a, u8, Global>, NoMemory> {
     if bytes.len() > 64 {
         return Err(NoMemory);
     }

@@ -3,4 +3,4 @@
 
 mod writing;
 
-pub use writing::write_samples;
+pub use writing::{write_samples, write_whole};

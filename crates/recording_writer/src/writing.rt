@@ -42,8 +42,8 @@ pub fn write_samples<D: Disk>(
     write_padded(shape, disk, addresses[whole], &samples[front..], room)
 }
 
-// Writes whole blocks, a run of consecutive addresses in one write.
-fn write_whole<D: Disk>(
+/// Writes whole blocks at these addresses, in order, a run of consecutive addresses in one write. It makes no sync and takes no memory. It ends at the first write that fails.
+pub fn write_whole<D: Disk>(
     shape: &Shape,
     disk: &mut D,
     addresses: &[u32],
@@ -54,6 +54,7 @@ fn write_whole<D: Disk>(
     requires differ { AreDistinct addresses.now }
     requires fits { bytes_needed shape.now.block shape.now.blocks shape.now.area ≤ (D.told disk.old).size }
     ensures made { MakesAtMost (runs addresses.now) (D.told disk.old) (D.told disk.new) result }
+    ensures few { runs addresses.now ≤ length addresses.now }
     ensures calls { OnOk result ((D.told disk.new).calls ≡ (D.told disk.old).calls + runs addresses.now) }
     ensures content { IsTrue (D.told disk.old).honest → WroteAt shape.now addresses.now (D.told disk.old) (D.told disk.new) }
     ensures written { IsTrue (D.told disk.old).honest → OnOk result (Holds shape.now addresses.now bytes.now (length bytes.now) (D.told disk.new).bytes) }

@@ -6,7 +6,6 @@ ghost use Rattle.recovery.specs.Shown.{IsApplied, IsParts, Rebuilds, Shows, Show
 ghost use Rattle.voice_model.specs.Replay.{Rebuilt, may_be_recorded, placed_from};
 ghost use Rattle.voice_model.specs.Changes.{with_rope};
 ghost use Rattle.voice_units.specs.Spots.{spots_from};
-ghost use Rattle.voice_units.specs.Blocks.{blocks_for};
 ghost use Rattle.voice_units.specs.declared.Shape.{Shape};
 
 use crate::edits::are_used;
@@ -15,15 +14,7 @@ use crate::placing::place_all;
 use rope_algebra::Pieces;
 use std::alloc::Global;
 use voice_model::{Change, Class, Key, Note, Row};
-use voice_units::{Moment, NoMemory, Piece, RopeId, Shape};
-
-/// How many blocks so many samples take.
-fn blocks_needed(block: u32, len: u32) -> u64
-    requires { 1 ≤ block }
-    ensures { result ≡ blocks_for block len }
-{
-    (u64::from(len) + u64::from(block - 1)) / u64::from(block)
-}
+use voice_units::{Moment, NoMemory, Piece, RopeId, Shape, blocks_needed};
 
 impl Parts {
     /// An interest in a rope.
@@ -112,7 +103,7 @@ impl Parts {
         if id.number() < self.next {
             return Ok(false);
         }
-        if addresses.len() as u64 != blocks_needed(shape.block, len) {
+        if addresses.len() as u64 != blocks_needed(shape.block, len as u64) as u64 {
             return Ok(false);
         }
         let rope = Pieces::one(

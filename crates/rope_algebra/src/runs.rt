@@ -5,10 +5,7 @@ ghost use Rattle.voice_units.specs.Spots.{spots_from, spots_of, stretches, sampl
 ghost use Rattle.rope_algebra.specs.Kept.{IsRope};
 
 use super::cuts::part_of;
-use voice_units::Piece;
-
-/// The most stretches that a window has.
-const WINDOW_STRETCHES: u32 = 4;
+use voice_units::{Piece, WINDOW_STRETCHES};
 
 /// Some stretches: how many there are, and how many samples they have.
 #[derive(Clone, Copy)]

@@ -19,6 +19,7 @@ mod words;
 
 pub use forms::is_file;
 pub use labels::{Boxed, Label};
+pub use numbers::{are_digits, number};
 pub use reader::{parse, parse_by};
 pub use scripts::{ArgList, Cause, Line, RopeArg, Script, ScriptError, Verb};
 pub use text::entry_text;

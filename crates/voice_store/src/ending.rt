@@ -18,7 +18,7 @@ use crate::committing::Plan;
 use crate::editing::replies_of;
 use crate::going::{Going, give_up};
 use crate::inside::Inside;
-use crate::recording::{address_width, blocks_needed, growth};
+use crate::recording::{address_width, growth};
 use crate::ways::Way;
 use checkpoint::parts_size;
 use crash_laws::laws::{disks_are_honest, foundations};
@@ -27,7 +27,7 @@ use open_recordings::ready_ended;
 use recording_writer::write_samples;
 use voice_model::{Call, Reply, Why};
 use voice_outside::Disk;
-use voice_units::{Failed, Lane, NoMemory};
+use voice_units::{Failed, Lane, NoMemory, blocks_needed};
 
 // The addresses from one of them on.
 fn tail_of(addresses: &[u32], from: usize) -> &[u32]
@@ -159,7 +159,7 @@ impl Inside {
         let len = self.recordings.total(lane);
         let base = parts_size(&self.parts);
         let more = u128::from(growth(form, shape.block, len));
-        let blocks = u64::from(blocks_needed(shape.block, len));
+        let blocks = u64::from(blocks_needed(shape.block, len as u64));
         match self.way(22 + address_width(form) * blocks, base, base + more)? {
             Way::Full(most, left) => {
                 Ok(self.refuse(disk, caller, Call::End(lane), Why::JournalFull(most, left)))

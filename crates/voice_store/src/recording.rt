@@ -34,23 +34,7 @@ use next_ropes::{NextRope, ready_recording};
 use recording_writer::write_samples;
 use voice_model::{Call, Reply, Why};
 use voice_outside::Disk;
-use voice_units::{Failed, NoMemory, Shape, Take};
-
-// The most samples of a rope.
-const LONGEST: u32 = 1 << 30;
-
-// The greatest number of a rope.
-const LAST_ROPE: u64 = 1 << 48;
-
-// How many blocks so many samples take.
-pub(crate) fn blocks_needed(block: u32, len: u32) -> u32
-    requires least { 1 ≤ block }
-    requires most { len ≤ 2 ^ 30 }
-    requires block_limit { block ≤ 8192 }
-    ensures { result ≡ blocks_for block len }
-{
-    (len + (block - 1)) / block
-}
+use voice_units::{Failed, LAST_ROPE, MOST_SAMPLES, NoMemory, Shape, Take, blocks_needed};
 
 // The bytes that an address takes in a record.
 pub(crate) fn address_width(form: u8) -> u64
@@ -69,7 +53,7 @@ pub(crate) fn growth(form: u8, block: u32, len: u32) -> u64
     if len == 0 {
         return rope_size(form, 0);
     }
-    let blocks = u64::from(blocks_needed(block, len));
+    let blocks = u64::from(blocks_needed(block, len as u64));
     rope_size(form, 1) + 18 + (4 + address_width(form)) * blocks
 }
 
@@ -78,13 +62,13 @@ impl Inside {
     fn refusal(&self, shape: &Shape, len: u32) -> Option<Why>
         ensures { result ≡ refused_by self.now.parts.next shape.now.block (open_in self.now.parts.blocks.holders) len }
     {
-        if len > LONGEST {
+        if len as u64 > MOST_SAMPLES {
             return Some(Why::TooLong(u64::from(len)));
         }
         if self.parts.next > LAST_ROPE {
             return Some(Why::IdsSpent);
         }
-        let need = blocks_needed(shape.block, len);
+        let need = blocks_needed(shape.block, len as u64);
         let free = self.parts.blocks.free();
         if need > free {
             return Some(Why::NoRoom(need, free));
@@ -208,7 +192,7 @@ impl Inside {
         let form = self.parts.form;
         let base = parts_size(&self.parts);
         let more = u128::from(growth(form, shape.block, take.len));
-        let blocks = u64::from(blocks_needed(shape.block, take.len));
+        let blocks = u64::from(blocks_needed(shape.block, take.len as u64));
         match self.way(22 + address_width(form) * blocks, base, base + more)? {
             Way::Full(most, left) => {
                 Ok(self.refuse(

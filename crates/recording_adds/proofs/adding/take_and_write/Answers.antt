@@ -19,13 +19,13 @@ returns-in_err-_taken-clause-stands g c = λ honest before many has.
     on_none c.from_residual-in_err-_taken.result (HasWhole c.args.shape.now (g.D.Disk.told c.args.disk.now).bytes c.grow.new.parts.blocks.holders c.args.lane before)
     (λ a index k e low less. has a index k (c.in_err-_taken.ensures.none a _ e) low less)
 
-pub write_whole-written-requires-clause-addresses : goal.write_whole-written-requires-clause-addresses
-write_whole-written-requires-clause-addresses g c κs within =
+pub write_taken-written-requires-clause-addresses : goal.write_taken-written-requires-clause-addresses
+write_taken-written-requires-clause-addresses g c κs within =
     let taken_more = took_more c.args.shape.now c.args.lane c.args.total c.args.n (c.blocks_needed.result - c.blocks_needed-from.result) c.args.parts.now c.grow.new.parts c.requires.holds (ap₂ (λ x y. x - y) c.blocks_needed.ensures c.blocks_needed-from.ensures) c.in_ok-_taken.ensures.grown c.in_ok-_taken.ensures.hands c.in_ok-_taken.ensures.stays in
     whole_listed c.args.shape.now c.args.lane c.args.total c.args.n c.args.parts.now c.grow.new.parts taken_more
 
-pub write_whole-written-requires-clause-many : goal.write_whole-written-requires-clause-many
-write_whole-written-requires-clause-many g c κs within =
+pub write_taken-written-requires-clause-many : goal.write_taken-written-requires-clause-many
+write_taken-written-requires-clause-many g c κs within =
     let taken_more = took_more c.args.shape.now c.args.lane c.args.total c.args.n (c.blocks_needed.result - c.blocks_needed-from.result) c.args.parts.now c.grow.new.parts c.requires.holds (ap₂ (λ x y. x - y) c.blocks_needed.ensures c.blocks_needed-from.ensures) c.in_ok-_taken.ensures.grown c.in_ok-_taken.ensures.hands c.in_ok-_taken.ensures.stays in
     all_blocks c.args.shape.now c.args.lane c.args.total c.args.n c.args.parts.now c.grow.new.parts taken_more
 

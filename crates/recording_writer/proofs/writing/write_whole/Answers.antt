@@ -1,4 +1,5 @@
 use Rattle.std.proofs.Common.{length, refl, arith, Err}
+use Rattle.recording_writer.proofs.Counted.{runs_limit}
 use Rattle.recording_writer.proofs.Writes.{some_block, run_fits, part_size, part_at, whole_blocks}
 use Rattle.recording_writer.proofs.Stages.{none_written, run_written, run_failed, run_torn, all_counted, all_made, all_written}
 use Rattle.recording_writer.proofs.writing.write_whole.Goals as goal
@@ -25,6 +26,9 @@ returns-in_err-write_blocks-clause-made g c =
     let ends = c.in_err-write_blocks.ensures in
     run_failed c.args.shape.now c.args.addresses.now c.args.bytes.now c.loop-at.at c.run_length.result (g.D.Disk.told c.args.disk.now) (g.D.Disk.told c.loop-at.disk) (g.D.Disk.told c.write_blocks.new.disk) (Err c.in_err-write_blocks.field-0.0) c.from_residual.result c.loop-at.invariant c.run_length.ensures.longest ends.counts refl
 
+pub returns-in_err-write_blocks-clause-few : goal.returns-in_err-write_blocks-clause-few
+returns-in_err-write_blocks-clause-few g c = runs_limit c.args.addresses.now
+
 pub returns-in_err-write_blocks-clause-content : goal.returns-in_err-write_blocks-clause-content
 returns-in_err-write_blocks-clause-content g c = λ honest.
     let size = part_size c.args.bytes.now c.args.shape.now.block c.loop-at.at c.run_length.result (length c.args.addresses.now) c.run_length.ensures.within c.requires.enough in
@@ -43,6 +47,9 @@ returns-clause-made g c = all_made c.args.shape.now c.args.addresses.now c.args.
 
 pub returns-clause-calls : goal.returns-clause-calls
 returns-clause-calls g c = all_counted c.args.shape.now c.args.addresses.now c.args.bytes.now c.loop-at.at _ _ c.loop-at.invariant c.loop-at-test.false
+
+pub returns-clause-few : goal.returns-clause-few
+returns-clause-few g c = runs_limit c.args.addresses.now
 
 pub returns-clause-content : goal.returns-clause-content
 returns-clause-content g c = λ honest. c.loop-at.invariant.content honest

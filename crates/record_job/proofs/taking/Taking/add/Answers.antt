@@ -25,6 +25,6 @@ invariant_of-self-2 c =
     let had : c.len-before.result ≡ length t.rest.items = omega (arith, c.len-before.ensures, t.rest.ok.0) in
     let total = ap total_of c.self.view_is in
     let least = at_least_one t.block n c.if-whole-eq0.false in
-    still_recording t.block t.total t.rest.items c.args.bytes.now c.extend_from_slice-4.new.self.items _ _ c.self.invariant (omega (arith, total, c.requires))
-    (c.in_ok-extend_from_slice-4.ensures.items ∙ ap (λ l. l ++ c.split_at.result.1.now) c.clear.ensures.items ∙ c.split_at.ensures.back ∙ ap (λ k. drop (whole - k) c.args.bytes.now) had ∙ (some_complete t.block t.rest.items c.args.bytes.now n whole (omega (arith, had)) refl (omega (arith, least, c.self.invariant.few))).1)
-    (omega (arith, c.self.invariant.enough, c.in_ok-extend_from_slice-4.ensures.capacity, c.clear.ensures.capacity))
+    still_recording t.block t.total t.rest.items c.args.bytes.now c.extend_from_slice-2.new.self.items _ _ c.self.invariant (omega (arith, total, c.requires))
+    (c.in_ok-extend_from_slice-2.ensures.items ∙ ap (λ l. l ++ c.split_at.result.1.now) c.clear.ensures.items ∙ c.split_at.ensures.back ∙ ap (λ k. drop (whole - k) c.args.bytes.now) had ∙ (some_complete t.block t.rest.items c.args.bytes.now n whole (omega (arith, had)) refl (omega (arith, least, c.self.invariant.few))).1)
+    (omega (arith, c.self.invariant.enough, c.in_ok-extend_from_slice-2.ensures.capacity, c.clear.ensures.capacity))
