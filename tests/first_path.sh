@@ -72,6 +72,11 @@ expect '65,535 lines' sh -c "cd '$work' && [ \"\$('$top/voice' run long.vs | tai
 check '65,536 lines' 3 '' 'voice: line 65536 of the script is refused: more than 65535 lines
 ' run longer.vs
 
+# Lines of comments alone take none of the numbers of entries.
+(awk 'BEGIN { for (i = 1; i < 65535; i++) print "#" }' && echo '1 record empty.vs') >"$work/comments.vs"
+check '65,534 comments and a line' 0 '1 1 record: rope 1 length 0
+' '' run comments.vs
+
 # A full standard output, and one that is closed by its reader.
 status=0
 (cd "$work" && "$top/voice" run first.vs) >/dev/full 2>"$work/.err" || status=$?

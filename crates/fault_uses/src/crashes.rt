@@ -1,7 +1,8 @@
 //! A crash at each moment of a run, and a crash behind a fault.
 
 use crate::histories::shown_after;
-use crate::runs::{Ran, SCRIPT, Start, TEXT, disk_at, run_script};
+use crate::runs::{Ran, Start, disk_at, run_script};
+use crate::scripts::{REPLACED, SWITCHED, Script};
 use crate::shown::shown_by;
 use std::alloc::Global;
 use std::process::Abort;
@@ -73,17 +74,17 @@ fn assert_crash_at(
 // How many calls open a disk.
 const OPENING: u64 = 5;
 
-// The script, done, and the moment at which its disk was open.
+// A script, done, and the moment at which its disk was open.
 fn ran<R: Threads + Wait + Sync + Abort>(
     rt: &R,
     alloc: Global,
-    start: Start,
+    (start, script): (Start, &Script),
 ) -> Result<(Ran<MemDisk>, u64), Fail> {
     let disk = disk_at(alloc, start, &[])?;
     let opened = disk.calls().saturating_add(OPENING);
-    let ran = run_script(rt, alloc, SCRIPT, disk)?;
+    let ran = run_script(rt, alloc, script.lines, disk)?;
     assert_eq!(rt; ran.ended.status, Status::Done);
-    assert!(rt; ran.text.as_slice() == TEXT.as_bytes());
+    assert!(rt; ran.text.as_slice() == script.text.as_bytes());
     Ok((ran, opened))
 }
 
@@ -91,10 +92,11 @@ fn ran<R: Threads + Wait + Sync + Abort>(
 fn assert_crashes<R: Threads + Wait + Sync + Abort>(
     rt: &R,
     alloc: Global,
-    start: Start,
+    (start, script): (Start, &Script),
 ) -> Result<(), Fail> {
-    let (ran, opened) = ran(rt, alloc, start)?;
-    let place = format!(in alloc; "{start:?}")?;
+    let (ran, opened) = ran(rt, alloc, (start, script))?;
+    let name = script.name;
+    let place = format!(in alloc; "{name}, {start:?}")?;
     for moment in opened..=ran.ended.disk.calls() {
         assert_crash_at(rt, alloc, start, &ran.ended, (moment, CHOICES, &place))?;
     }
@@ -104,7 +106,15 @@ fn assert_crashes<R: Threads + Wait + Sync + Abort>(
 #[test]
 fn a_crash_leaves_what_was_acknowledged(rt: HostRuntime) -> Result<(), Fail> {
     for start in [Start::New, Start::Full] {
-        assert_crashes(&rt, rt.alloc(), start)?;
+        assert_crashes(&rt, rt.alloc(), (start, &REPLACED))?;
+    }
+    Ok(())
+}
+
+#[test]
+fn a_crash_beside_switches_leaves_what_was_acknowledged(rt: HostRuntime) -> Result<(), Fail> {
+    for start in [Start::New, Start::Full] {
+        assert_crashes(&rt, rt.alloc(), (start, &SWITCHED))?;
     }
     Ok(())
 }
@@ -116,12 +126,14 @@ const FEW: &[u16] = &[0, 1, 7, 255];
 fn assert_crashes_behind<R: Threads + Wait + Sync + Abort>(
     rt: &R,
     alloc: Global,
-    start: Start,
+    script: &Script,
     call: u64,
 ) -> Result<(), Fail> {
+    let start = Start::New;
     let disk = disk_at(alloc, start, &[call])?;
-    let ran = run_script(rt, alloc, SCRIPT, disk)?;
-    let place = format!(in alloc; "{start:?}, call {call}")?;
+    let ran = run_script(rt, alloc, script.lines, disk)?;
+    let name = script.name;
+    let place = format!(in alloc; "{name}, call {call}")?;
     let last = ran.ended.disk.calls();
     for moment in call..=last.min(call.saturating_add(3)) {
         assert_crash_at(rt, alloc, start, &ran.ended, (moment, FEW, &place))?;
@@ -129,11 +141,25 @@ fn assert_crashes_behind<R: Threads + Wait + Sync + Abort>(
     Ok(())
 }
 
-#[test]
-fn a_crash_behind_a_fault_leaves_what_was_acknowledged(rt: HostRuntime) -> Result<(), Fail> {
-    let (ran, opened) = ran(&rt, rt.alloc(), Start::New)?;
+// Asserts it behind a fault at each call from the end of opening on.
+fn assert_crashes_behind_faults<R: Threads + Wait + Sync + Abort>(
+    rt: &R,
+    alloc: Global,
+    script: &Script,
+) -> Result<(), Fail> {
+    let (ran, opened) = ran(rt, alloc, (Start::New, script))?;
     for call in opened..=ran.ended.disk.calls() {
-        assert_crashes_behind(&rt, rt.alloc(), Start::New, call)?;
+        assert_crashes_behind(rt, alloc, script, call)?;
     }
     Ok(())
+}
+
+#[test]
+fn a_crash_behind_a_fault_leaves_what_was_acknowledged(rt: HostRuntime) -> Result<(), Fail> {
+    assert_crashes_behind_faults(&rt, rt.alloc(), &REPLACED)
+}
+
+#[test]
+fn a_crash_behind_a_fault_beside_switches_leaves_it(rt: HostRuntime) -> Result<(), Fail> {
+    assert_crashes_behind_faults(&rt, rt.alloc(), &SWITCHED)
 }

@@ -12,7 +12,7 @@ use voice_main::Status;
 use voice_model::{Call, Entry};
 
 // How many seeds there are, how many lines are drawn from each, and up to which number calls fail.
-const SEEDS: u64 = 60;
+const SEEDS: u64 = 200;
 
 const LINES: u32 = 40;
 
@@ -93,8 +93,9 @@ impl Draws {
     // A line on the moment, or a sweep, or a look at a rope.
     fn tidying(&mut self, alloc: Global) -> Result<String, Fail> {
         let rope = self.word(&["a", "v"]);
+        let verb = self.word(&["length", "describe", "levels"]);
         match self.below(3) {
-            0 => Ok(format!(in alloc; "1 length {rope}\n")?),
+            0 => Ok(format!(in alloc; "1 {verb} {rope}\n")?),
             1 => {
                 let limit = self.below(4);
                 Ok(format!(in alloc; "1 sweep {limit}\n")?)
@@ -107,11 +108,37 @@ impl Draws {
         }
     }
 
+    // A line on the jobs of a lane.
+    fn job(&mut self, alloc: Global) -> Result<String, Fail> {
+        let rope = self.word(&["a", "b", "v", "w"]);
+        let (lane, start, len) = (self.below(3), self.below(8), self.below(24));
+        match self.below(4) {
+            0 => Ok(format!(in alloc; "1 queue {lane} {rope} {start} {len}\n")?),
+            1 => Ok(format!(in alloc; "1 play {lane} {rope} {start} {len} out\n")?),
+            2 => Ok(format!(in alloc; "1 serve {lane} out\n")?),
+            _ => Ok(format!(in alloc; "1 stop {lane}\n")?),
+        }
+    }
+
+    // A line on the recording of a lane.
+    fn part(&mut self, alloc: Global) -> Result<String, Fail> {
+        let to = self.recorded();
+        let file = self.word(&["z0", "z8", "f20", "g20"]);
+        let lane = self.below(3);
+        match self.below(5) {
+            0 | 1 => Ok(format!(in alloc; "1 begin {lane}\n")?),
+            2 => Ok(format!(in alloc; "1 {to} = end {lane}\n")?),
+            _ => Ok(format!(in alloc; "1 add {lane} {file}\n")?),
+        }
+    }
+
     // The next line.
     fn line(&mut self, alloc: Global) -> Result<String, Fail> {
-        match self.below(6) {
+        match self.below(10) {
             0 | 1 => self.row(alloc),
             2 | 3 => self.tidying(alloc),
+            4 => self.job(alloc),
+            5 | 6 => self.part(alloc),
             _ => self.edit(alloc),
         }
     }
@@ -183,7 +210,7 @@ fn drawn_faults_leave_what_was_acknowledged(rt: HostRuntime) -> Result<(), Fail>
     }
     // There are enough of either, so that the draws are worth their time.
     assert!(rt;
-        faults > 300 && landings > 60,
+        faults > 1000 && landings > 200,
         "{faults} faults, {landings} landings"
     );
     Ok(())

@@ -6,7 +6,7 @@ use plain_calls::Plain;
 use std::alloc::Global;
 use std::test::Fail;
 use voice_model::{Call, Entry, Reply, Tapes, Why};
-use voice_units::Moment;
+use voice_units::{Lane, Moment};
 
 /// How many entries tell of a fault.
 pub fn faults_in(history: &[Entry]) -> usize {
@@ -14,11 +14,6 @@ pub fn faults_in(history: &[Entry]) -> usize {
         .iter()
         .filter(|entry| matches!(&entry.reply, Reply::No(Why::DiskFault | Why::InDoubt)))
         .count()
-}
-
-// Whether a call is one of a lane, of which no disk keeps anything.
-fn is_of_lane(call: &Call) -> bool {
-    matches!(call, Call::Play(..) | Call::Feed(..) | Call::Stop(_))
 }
 
 // The evaluator does what was in doubt, as it lands: an End has closed its recording before.
@@ -30,9 +25,28 @@ fn land(plain: &mut Plain, tapes: &Tapes, call: &Call) -> Result<(), Fail> {
     Ok(())
 }
 
+// A Feed as the evaluator is asked it: where one before it failed, its window is out there, and nothing of it was heard.
+fn feed_of(plain: &Plain, lane: Lane, back: Option<u32>) -> Result<Call, Fail> {
+    if back.is_none() && !plain.window(lane)?.is_empty() {
+        return Ok(Call::Feed(lane, Some(0)));
+    }
+    Ok(Call::Feed(lane, back))
+}
+
+// The evaluator's reply to the call of an entry.
+fn wanted_of(plain: &mut Plain, tapes: &Tapes, call: &Call) -> Result<Reply, Fail> {
+    match call {
+        Call::Feed(lane, back) => {
+            let asked = feed_of(plain, *lane, *back)?;
+            reply_of(plain, tapes, &asked)
+        }
+        other => reply_of(plain, tapes, other),
+    }
+}
+
 // The evaluator does a call, and has to answer as its entry says.
 fn done_alike(alloc: Global, plain: &mut Plain, tapes: &Tapes, entry: &Entry) -> Result<(), Fail> {
-    let wanted = reply_of(plain, tapes, &entry.call)?;
+    let wanted = wanted_of(plain, tapes, &entry.call)?;
     let found = &entry.reply;
     let wanted = format!(in alloc; "{wanted}")?;
     let found = format!(in alloc; "{found}")?;
@@ -42,7 +56,7 @@ fn done_alike(alloc: Global, plain: &mut Plain, tapes: &Tapes, entry: &Entry) ->
     Ok(())
 }
 
-// Does the calls of a history, but those that a fault undid or that a full journal refused; and gives the one that is in doubt at its end.
+// Does the calls of a history, but those that a fault undid or that a full journal refused; and gives the one that is in doubt at its end. A Feed that failed has brought its window back.
 fn follow<'a>(
     alloc: Global,
     plain: &mut Plain,
@@ -51,9 +65,6 @@ fn follow<'a>(
 ) -> Result<Option<&'a Call>, Fail> {
     let mut doubt: Option<&'a Call> = None;
     for entry in history {
-        if is_of_lane(&entry.call) {
-            continue;
-        }
         match (&entry.call, &entry.reply) {
             (Call::Landed, _) => {
                 let Some(call) = doubt else {
@@ -62,7 +73,12 @@ fn follow<'a>(
                 land(plain, tapes, call)?;
                 doubt = None;
             }
+            (call @ Call::Feed(..), Reply::No(Why::DiskFault)) => {
+                let _window = wanted_of(plain, tapes, call)?;
+            }
             (_, Reply::No(Why::DiskFault | Why::JournalFull(_, _))) => {}
+            // What is in doubt has blocks too, which the evaluator doesn't count.
+            (Call::Add(..), Reply::No(Why::NoRoom(_, _))) if doubt.is_some() => {}
             (call, Reply::No(Why::InDoubt)) => {
                 if let Call::End(lane) = call {
                     plain.doubt_end(*lane);

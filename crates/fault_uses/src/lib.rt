@@ -1,4 +1,4 @@
-//! Tests of what faults, stops, crashes and want of memory leave of whole runs, over disks in memory; and of how many device calls each line takes.
+//! Tests of what faults, stops, crashes and want of memory leave of whole runs, over disks in memory; of how many device calls each line takes; and of numbers that two bytes don't tell.
 #![tactic(auto)]
 
 #[cfg(test)]
@@ -14,6 +14,8 @@ mod histories;
 #[cfg(test)]
 mod lanes;
 #[cfg(test)]
+mod large;
+#[cfg(test)]
 mod long;
 #[cfg(test)]
 mod memory;
@@ -21,5 +23,7 @@ mod memory;
 mod outsides;
 #[cfg(test)]
 mod runs;
+#[cfg(test)]
+mod scripts;
 #[cfg(test)]
 mod shown;

@@ -21,8 +21,8 @@ const AREA: u32 = 1 << 18;
 
 const SIZE: u64 = 64 + 2 * AREA as u64 + 4 * BLOCK as u64;
 
-// A disk of that size, formatted with four blocks of that length and areas of that one.
-fn large_disk(alloc: Global, block: u32, area: u32, size: u64) -> Result<MemDisk, Fail> {
+/// A disk of that size, formatted with four blocks of that length and areas of that one.
+pub fn large_disk(alloc: Global, block: u32, area: u32, size: u64) -> Result<MemDisk, Fail> {
     let mut disk = MemDisk::new(alloc, size, Vec::new(alloc))?;
     let graces = Graces {
         common: 60,

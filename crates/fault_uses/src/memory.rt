@@ -2,7 +2,8 @@
 
 use crate::faults::{assert_heard, assert_shows};
 use crate::histories::faults_in;
-use crate::runs::{Ran, SCRIPT, Start, disk_at, run_script};
+use crate::runs::{Ran, Start, disk_at, run_script};
+use crate::scripts::REPLACED;
 use std::test::Fail;
 use voice_disk::MemDisk;
 use voice_main::Status;
@@ -23,10 +24,16 @@ fn is_told(ran: &Ran<MemDisk>) -> bool {
 #[test]
 fn want_of_memory_is_told(rt: HostRuntime) -> Result<(), Fail> {
     let disk = disk_at(rt.alloc(), Start::New, &[])?;
-    let ran = run_script(&rt, rt.alloc(), SCRIPT, disk)?;
+    let mut ran = run_script(&rt, rt.alloc(), REPLACED.lines, disk)?;
     assert!(rt; is_told(&ran));
     if ran.ended.status == Status::Done {
-        assert_heard(&rt, &ran.ended.history, &ran.out, "wanting memory");
+        assert_heard(
+            &rt,
+            &REPLACED,
+            &ran.ended.history,
+            &mut ran.shelf,
+            "wanting memory",
+        )?;
     }
     assert_shows(&rt, rt.alloc(), Start::New, &ran.ended, "wanting memory")
 }

@@ -1,5 +1,6 @@
-//! The script of the tables, the disks that it runs over, and what a run of it leaves.
+//! Runs of scripts, the disks that they run over, and what a run leaves.
 
+use crate::scripts::{F20, G20, Z8, Z32};
 use disk_uses::steps::{Did, append, fits};
 use std::alloc::Global;
 use std::sync::{Arc, Wait};
@@ -12,24 +13,6 @@ use voice_model::Tapes;
 use voice_outside::{Disk, MemShelf, MemSink, OpenGate, Shelf, Sink};
 use voice_units::{Graces, Name, Shape};
 
-/// The samples of the files `f20`, `g20` and `z8`.
-pub const F20: &[u8] = b"ABCDEFGHIJKLMNOPQRST";
-
-pub const G20: &[u8] = b"abcdefghijklmnopqrst";
-
-pub const Z8: &[u8] = &[0x80; 8];
-
-/// A recording, a rope of it in itself, which is heard in two windows, two recordings in parts beside each other, behind one of which its lane begins another, an interest that goes, and a sweep, behind which another recording takes the same blocks.
-pub const SCRIPT: &str =
-    "1 a = record f20\n1 retain held k a 00\n1 begin 1\n1 add 1 f20\n1 b = replace a 5 10 a\n1 play 0 b 0 30 out\n1 begin 2\n1 add 2 g20\n1 end 2\n1 add 1 g20\n1 forget held k\n1 advance 100\n1 end 1\n1 begin 1\n1 sweep 9\n1 record g20\n";
-
-/// What it prints without faults.
-pub const TEXT: &str =
-    "1 1 record: rope 1 length 20\n2 1 retain: done\n3 1 begin: done\n4 1 add: number 20\n5 1 replace: rope 2 length 30\n6 1 play: job 1\n7 1 feed: window 0 25\n8 1 feed: window 25 5\n9 1 feed: ended 1 30\n10 1 begin: done\n11 1 add: number 20\n12 1 end: rope 3 length 20\n13 1 add: number 40\n14 1 forget: done\n15 1 advance: done\n16 1 end: rope 4 length 40\n17 1 begin: done\n18 1 sweep: swept 0 rows 3 ropes 1 2 3\n19 1 record: rope 5 length 20\n";
-
-/// What is heard of it, as the file `out`.
-pub const HEARD: &[u8] = b"ABCDEABCDEFGHIJKLMNOPQRSTPQRST";
-
 /// How many bytes a disk has.
 pub const SIZE: u64 = 4096;
 
@@ -40,7 +23,7 @@ const FILES: &[(&[u8], &[u8])] = &[
     (b"z0", b""),
     (b"z8", Z8),
     (b"z16", &[0x80; 16]),
-    (b"z32", &[0x80; 32]),
+    (b"z32", Z32),
 ];
 
 /// The disk that a script runs over: just formatted, with a full journal, or with areas that drawn scripts fill now and then.
@@ -54,7 +37,7 @@ pub enum Start {
 /// The samples that scripts over such a disk record, in the order in which they name their files.
 pub fn tapes(alloc: Global, start: Start) -> Result<Tapes, Fail> {
     let named: &[&[u8]] = match start {
-        Start::New | Start::Full => &[F20, G20],
+        Start::New | Start::Full => &[F20, G20, Z32],
         Start::Drawn => &[F20, Z8, G20, b""],
     };
     let mut tapes = Vec::new(alloc);
@@ -131,12 +114,12 @@ pub fn disk_at(alloc: Global, start: Start, fails: &[u64]) -> Result<MemDisk, Fa
     Ok(disk)
 }
 
-/// How a run ended, what it printed, and the file `out`.
+/// How a run ended, what it printed, and the shelf with the files that it wrote.
 #[derive(Drop)]
 pub struct Ran<D> {
     pub ended: Ended<D>,
     pub text: Vec<u8>,
-    pub out: Option<Vec<u8>>,
+    pub shelf: MemShelf,
 }
 
 /// Puts a file behind the others.
@@ -170,9 +153,9 @@ fn words(alloc: Global) -> Result<Vec<String>, Fail> {
     Ok(words)
 }
 
-/// The file `out` of a shelf.
-pub fn out_of(shelf: &mut MemShelf) -> Result<Option<Vec<u8>>, Fail> {
-    match shelf.get(&Name::new(b"out")?) {
+/// A file of a shelf.
+pub fn file_of(shelf: &mut MemShelf, name: &[u8]) -> Result<Option<Vec<u8>>, Fail> {
+    match shelf.get(&Name::new(name)?) {
         Ok(found) => Ok(found),
         Err(_) => Err(Fail::new("the shelf failed")),
     }
@@ -201,6 +184,5 @@ pub fn run_script<R: Threads + Wait + Sync, D: Disk + Drop>(
     let mut sink = MemSink::new(alloc, Vec::new(alloc));
     let ended = run_with(rt, alloc, &mut shelf, &mut sink, disk)?;
     let text = sink.bytes().to_vec(alloc)?;
-    let out = out_of(&mut shelf)?;
-    Ok(Ran { ended, text, out })
+    Ok(Ran { ended, text, shelf })
 }

@@ -95,8 +95,9 @@ impl Plain {
         }
     }
 
-    /// Its disk is opened again: no lane has a job or an open recording, and nothing is in doubt.
+    /// Its disk is opened again: no lane has a job or an open recording, jobs are numbered from 1 on, and nothing is in doubt.
     pub fn reopen(&mut self) {
+        self.made = 0;
         for jobs in self.lanes.iter_mut() {
             jobs.clear();
         }

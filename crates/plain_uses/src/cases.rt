@@ -250,6 +250,9 @@ const CASES: &[(&str, Plan, &[Step])] = &[
             Step::Concat(2, 1, 4),
             Step::Replace(4, 7, 0, 1),
             Step::Replace(4, 7, 1, 1),
+            Step::Sub(4, 0, 4095),
+            Step::Play(0, 6, 4085, 10),
+            Step::Feed(0),
         ],
     ),
     (
@@ -342,7 +345,7 @@ fn assert_steps(
     steps: &[Step],
 ) -> Result<(), Fail> {
     for (number, step) in steps.iter().enumerate() {
-        assert_step(rt, alloc, pair, (name, number), *step)?;
+        let _answered = assert_step(rt, alloc, pair, (name, number), *step)?;
     }
     Ok(())
 }

@@ -1,5 +1,6 @@
 //! Steps drawn from a seed, with numbers near the edges.
 
+use crate::mixes::{Kind, MIXES};
 use crate::pair::{LANES, Pair};
 use crate::steps::Step;
 use crate::tapes::{SIGNS, TALK};
@@ -10,106 +11,7 @@ use voice_units::{Lane, RopeId};
 // No rope becomes longer.
 const MOST: u32 = 6000;
 
-// What kind of step is drawn.
-#[derive(Clone, Copy)]
-enum Kind {
-    Record,
-    Concat,
-    Sub,
-    Replace,
-    Tell,
-    Play,
-    Feed,
-    Serve,
-    Stop,
-    Retain,
-    Row,
-    Advance,
-    Sweep,
-}
-
-// Of all kinds; mostly edits; plays that are heard; plays that crowd a lane; and interests and sweeps.
-const MIXES: &[&[Kind]] = &[
-    &[
-        Kind::Record,
-        Kind::Record,
-        Kind::Concat,
-        Kind::Sub,
-        Kind::Replace,
-        Kind::Tell,
-        Kind::Play,
-        Kind::Play,
-        Kind::Feed,
-        Kind::Serve,
-        Kind::Serve,
-        Kind::Stop,
-        Kind::Retain,
-        Kind::Row,
-        Kind::Advance,
-        Kind::Sweep,
-    ],
-    &[
-        Kind::Record,
-        Kind::Record,
-        Kind::Concat,
-        Kind::Concat,
-        Kind::Concat,
-        Kind::Concat,
-        Kind::Sub,
-        Kind::Replace,
-        Kind::Replace,
-        Kind::Tell,
-        Kind::Tell,
-        Kind::Play,
-        Kind::Serve,
-        Kind::Advance,
-        Kind::Sweep,
-    ],
-    &[
-        Kind::Record,
-        Kind::Concat,
-        Kind::Replace,
-        Kind::Play,
-        Kind::Play,
-        Kind::Feed,
-        Kind::Serve,
-        Kind::Serve,
-        Kind::Serve,
-        Kind::Serve,
-        Kind::Serve,
-        Kind::Stop,
-        Kind::Advance,
-        Kind::Sweep,
-    ],
-    &[
-        Kind::Record,
-        Kind::Play,
-        Kind::Play,
-        Kind::Play,
-        Kind::Play,
-        Kind::Play,
-        Kind::Serve,
-        Kind::Stop,
-    ],
-    &[
-        Kind::Record,
-        Kind::Sub,
-        Kind::Retain,
-        Kind::Retain,
-        Kind::Retain,
-        Kind::Retain,
-        Kind::Row,
-        Kind::Row,
-        Kind::Row,
-        Kind::Advance,
-        Kind::Advance,
-        Kind::Sweep,
-        Kind::Sweep,
-        Kind::Play,
-    ],
-];
-
-/// What steps are drawn from: a number that looks like a random one, a mix, the number of the last rope, the latest moment, the last interest, and how large a block is.
+/// What steps are drawn from: a number that looks like a random one, a mix, the number of the last rope, the latest moment, the last interest, how large a block is, and the lane where a recording was begun last, until its end.
 #[derive(Drop)]
 pub struct Draws {
     number: u64,
@@ -118,6 +20,7 @@ pub struct Draws {
     moment: u64,
     row: (Class, u8),
     block: u32,
+    begun: Option<u16>,
 }
 
 // The next of a row of numbers that look like random ones.
@@ -145,11 +48,12 @@ impl Draws {
     pub fn new(seed: u64, block: u32) -> Draws {
         Draws {
             number: next_number(seed),
-            mix: (seed % 5) as usize,
+            mix: (seed % 7) as usize,
             newest: 0,
             moment: 0,
             row: (Class::Held, 0),
             block,
+            begun: None,
         }
     }
 
@@ -257,8 +161,8 @@ impl Draws {
         }
     }
 
-    // A recording of a part of a tape.
-    fn recording(&mut self) -> Step {
+    // A part of a tape: the tape, from, len. Often it is the tape's last one.
+    fn part(&mut self) -> (u32, u32, u32) {
         let wanted = self.recorded_length();
         let (tape, most) = if wanted > 64 || self.below(2) == 0 {
             (TALK, 10_000)
@@ -266,8 +170,69 @@ impl Draws {
             (SIGNS, 64)
         };
         let len = wanted.min(most);
-        let from = self.below(most.saturating_sub(len).saturating_add(1));
+        let last = most.saturating_sub(len);
+        let from = match self.below(4) {
+            0 => last,
+            _ => self.below(last.saturating_add(1)),
+        };
+        (tape, from, len)
+    }
+
+    fn recording(&mut self) -> Step {
+        let (tape, from, len) = self.part();
         Step::Record(tape, from, len)
+    }
+
+    // A lane for recordings in parts: mostly the last one, where few jobs come, now and then one too many.
+    fn recording_lane(&mut self) -> u16 {
+        match self.below(32) {
+            0 => LANES,
+            1 => u16::MAX,
+            2..6 => 0,
+            6..10 => 1,
+            10..16 => 2,
+            _ => 3,
+        }
+    }
+
+    fn begin(&mut self) -> Step {
+        let lane = self.recording_lane();
+        self.begun = Some(lane);
+        Step::Begin(lane)
+    }
+
+    // A lane that may record: mostly the one where a recording was begun last.
+    fn begun_lane(&mut self) -> u16 {
+        let is_known = self.below(8) > 0;
+        match self.begun {
+            Some(lane) if is_known => lane,
+            _ => self.recording_lane(),
+        }
+    }
+
+    // Whether a recording is begun first, since none is known.
+    fn begins(&mut self) -> bool {
+        self.begun.is_none() && self.below(4) > 0
+    }
+
+    fn add(&mut self) -> Step {
+        if self.begins() {
+            return self.begin();
+        }
+        let lane = self.begun_lane();
+        let (tape, from, len) = self.part();
+        Step::Add(lane, tape, from, len)
+    }
+
+    fn end(&mut self) -> Step {
+        if self.begins() {
+            return self.begin();
+        }
+        let lane = self.begun_lane();
+        if self.begun == Some(lane) {
+            self.begun = None;
+        }
+        Step::End(lane)
     }
 
     // Two ropes by turns, as often as what they make stays short enough: mostly the last one again and again.
@@ -312,7 +277,11 @@ impl Draws {
     fn play(&mut self, pair: &mut Pair) -> Result<Step, Fail> {
         let rope = self.rope();
         let (start, len) = self.interval(length(pair, rope)?);
-        Ok(Step::Play(self.lane(), rope, start, len))
+        let lane = match self.below(8) {
+            0 => self.begun_lane(),
+            _ => self.lane(),
+        };
+        Ok(Step::Play(lane, rope, start, len))
     }
 
     // A lane with a window out, if there is one.
@@ -414,6 +383,9 @@ impl Draws {
             Kind::Row => Ok(self.on_row()),
             Kind::Advance => Ok(self.advance()),
             Kind::Sweep => Ok(self.sweep()),
+            Kind::Begin => Ok(self.begin()),
+            Kind::Add => Ok(self.add()),
+            Kind::End => Ok(self.end()),
         }
     }
 }

@@ -8,6 +8,8 @@ mod drawn;
 #[cfg(test)]
 mod draws;
 #[cfg(test)]
+mod mixes;
+#[cfg(test)]
 mod pair;
 #[cfg(test)]
 mod steps;

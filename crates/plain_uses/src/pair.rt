@@ -195,6 +195,14 @@ impl Pair {
         self.ask(alloc, Call::Record(take))
     }
 
+    /// Adds samples of a tape to the recording of a lane.
+    pub fn add(&mut self, alloc: Global, lane: Lane, take: Take) -> Result<Answers, Fail> {
+        if !self.tapes.has(take) {
+            return Err(Fail::new("no such samples"));
+        }
+        self.ask(alloc, Call::Add(lane, take))
+    }
+
     /// Makes a rope of these, one after another.
     pub fn concat(&mut self, alloc: Global, ropes: Vec<RopeId>) -> Result<Answers, Fail> {
         if ropes.len() < 1 || ropes.len() > 16 {

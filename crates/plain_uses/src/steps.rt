@@ -38,6 +38,11 @@ pub enum Step {
     Census(u8),
     Advance(u64),
     Sweep(u16),
+    /// Lane.
+    Begin(u16),
+    /// Lane, tape, from, len.
+    Add(u16, u32, u32, u32),
+    End(u16),
 }
 
 fn rope(number: u64) -> Result<RopeId, Fail> {
@@ -61,6 +66,15 @@ fn record(
     (tape, from, len): (u32, u32, u32),
 ) -> Result<Answers, Fail> {
     pair.record(alloc, Take { tape, from, len })
+}
+
+fn add(
+    pair: &mut Pair,
+    alloc: Global,
+    lane: u16,
+    (tape, from, len): (u32, u32, u32),
+) -> Result<Answers, Fail> {
+    pair.add(alloc, Lane(lane), Take { tape, from, len })
 }
 
 fn concat(pair: &mut Pair, alloc: Global, count: u32, by_turns: [u64; 2]) -> Result<Answers, Fail> {
@@ -143,6 +157,9 @@ fn take(pair: &mut Pair, alloc: Global, step: Step) -> Result<Answers, Fail> {
         Step::Census(listed) => census(pair, alloc, listed),
         Step::Advance(moment) => advance(pair, alloc, moment),
         Step::Sweep(limit) => pair.ask(alloc, Call::Sweep(limit)),
+        Step::Begin(lane) => pair.ask(alloc, Call::Begin(Lane(lane))),
+        Step::Add(lane, tape, from, len) => add(pair, alloc, lane, (tape, from, len)),
+        Step::End(lane) => pair.ask(alloc, Call::End(Lane(lane))),
     }
 }
 
@@ -169,21 +186,21 @@ fn assert_window(
     Ok(())
 }
 
-/// Takes a step, and asserts that both answer the same, that the same samples are out then, and as many blocks free.
+/// Takes a step, and asserts that both answer the same, that the same samples are out then, and as many blocks free. What they answer.
 pub fn assert_step(
     rt: &impl Abort,
     alloc: Global,
     pair: &mut Pair,
     (name, number): (&str, usize),
     step: Step,
-) -> Result<(), Fail> {
+) -> Result<String, Fail> {
     let Answers { found, wanted } = take(pair, alloc, step)?;
     let place = format!(in alloc; "{name}, call {number}: {step:?}")?;
     assert!(rt; found == wanted, "{place}: {found:?}, {wanted:?}");
-    let (found, wanted) = pair.free()?;
-    assert_eq!(rt; found, wanted, "{place}");
+    let (left, wanted) = pair.free()?;
+    assert_eq!(rt; left, wanted, "{place}");
     for lane in 0..LANES {
         assert_window(rt, alloc, pair, lane, &place)?;
     }
-    Ok(())
+    Ok(found)
 }

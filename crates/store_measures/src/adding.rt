@@ -105,6 +105,8 @@ fn compare<R: Print + Clock>(
         return Err(io::Error::from(AllocError));
     };
     let part = bytes_of(alloc, 0x80, PART)?;
+    // Both then write over pages that the system has.
+    write_parts(other, &part)?;
     let Some(mut store) = open_store(alloc, disk, shared) else {
         return Err(io::Error::from(ErrorKind::InvalidData));
     };
