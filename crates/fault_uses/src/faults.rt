@@ -41,6 +41,18 @@ fn heard_in(history: &[Entry], lane: u16) -> Option<u32> {
     None
 }
 
+// Whether a file has just what was heard of a passage, or isn't there where the job isn't over.
+fn is_heard(passage: &[u8], heard: Option<u32>, file: &Option<Vec<u8>>) -> bool {
+    match (heard, file) {
+        (Some(n), Some(bytes)) => match passage.get(..n as usize) {
+            Some(front) => front == bytes.as_slice(),
+            None => false,
+        },
+        (None, None) => true,
+        _ => false,
+    }
+}
+
 /// Asserts that each file has just what was heard, and that there is none where its job isn't over.
 pub fn assert_heard(
     rt: &impl Abort,
@@ -50,16 +62,10 @@ pub fn assert_heard(
     place: &str,
 ) -> Result<(), Fail> {
     for serving in script.servings {
-        let wanted = match heard_in(history, serving.lane) {
-            Some(n) => serving.passage.get(..n as usize),
-            None => None,
-        };
+        let heard = heard_in(history, serving.lane);
         let file = file_of(shelf, serving.file)?;
-        let found = match &file {
-            Some(bytes) => Some(bytes.as_slice()),
-            None => None,
-        };
-        assert!(rt; found == wanted, "{place}");
+        let holds = is_heard(serving.passage, heard, &file);
+        assert!(rt; holds, "{place}");
     }
     Ok(())
 }
