@@ -2,7 +2,7 @@
 use Rattle.std.proofs.Common.{◌≡◌, ℕ, suc, zero, ◌+◌, ◌-◌, ◌*◌, ◌<◌, ◌≤◌, length, List, [], ◌∷◌, ◌++◌, take, drop, set, get_or, Some, slice_get, refl, ap, sym, ◌∙◌, subst, arith, length-append}
 use Rattle.std.specs.List.{insert, remove}
 use Rattle.std.proofs.lemmas.List.{append_assoc, append-nil, drop-append-le, drop-drop, drop_at, length-drop, set-append_left, set-append_right}
-use Rattle.std.proofs.lemmas.List.Edits.{insert-append_left, insert-append_right, remove-append_left, remove-append_right, insert_end, length-remove}
+use Rattle.std.proofs.lemmas.List.Edits.{insert-append_left, insert-append_right, remove-append_left, remove-append_right, length-remove}
 use Rattle.counted_row.specs.Row.{flat, IsDense, AreEmpty, Stands}
 
 module _ {X : Type 0} where
@@ -260,13 +260,12 @@ module _ {X : Type 0} where
   flat-open [] = refl
   flat-open (c ∷ cs) = ap (λ l. c ++ l) (flat-open cs)
 
-  pub flat-push : (cs : List (List X)) (i n : ℕ) (v : X) → i + 1 ≡ length cs → n ≡ length (get_or cs i []) → flat (set cs i (insert (get_or cs i []) n v)) ≡ flat cs ++ v ∷ []
-  flat-push [] i n v h e = absurd (omega (arith, h))
-  flat-push (c ∷ []) zero n v h e =
-      ap (λ m. insert c m v ++ []) e ∙ ap (λ l. l ++ []) (insert_end c v) ∙ append-nil (c ++ v ∷ []) ∙ ap (λ l. l ++ v ∷ []) (sym (append-nil c))
-  flat-push (c ∷ d ∷ cs) zero n v h e = absurd (omega (arith, h))
-  flat-push (c ∷ []) (suc i) n v h e = absurd (omega (arith, h))
-  flat-push (c ∷ d ∷ cs) (suc i) n v h e = ap (λ l. c ++ l) (flat-push (d ∷ cs) i n v (omega (arith, h)) e) ∙ sym (append_assoc c (flat (d ∷ cs)) (v ∷ []))
+  pub flat-push : (cs : List (List X)) (i : ℕ) (v : X) → i + 1 ≡ length cs → flat (set cs i (get_or cs i [] ++ v ∷ [])) ≡ flat cs ++ v ∷ []
+  flat-push [] i v h = absurd (omega (arith, h))
+  flat-push (c ∷ []) zero v h = append-nil (c ++ v ∷ []) ∙ ap (λ l. l ++ v ∷ []) (sym (append-nil c))
+  flat-push (c ∷ d ∷ cs) zero v h = absurd (omega (arith, h))
+  flat-push (c ∷ []) (suc i) v h = absurd (omega (arith, h))
+  flat-push (c ∷ d ∷ cs) (suc i) v h = ap (λ l. c ++ l) (flat-push (d ∷ cs) i v (omega (arith, h))) ∙ sym (append_assoc c (flat (d ∷ cs)) (v ∷ []))
 
   pub last-is : (cs : List (List X)) (i : ℕ) (x : List X) → i + 1 ≡ length (cs ++ x ∷ []) → get_or (cs ++ x ∷ []) i [] ≡ x
   last-is [] zero x h = refl

@@ -2,6 +2,7 @@
 use Rattle.std.proofs.Common.{◌≡◌, ℕ, suc, zero, Bool, true, false, cond, Option, None, inl, inr, ◌⊎◌, ◌+◌, ◌-◌, ◌<◌, ◌≤◌, length, List, [], ◌∷◌, ◌++◌, take, drop, get_or, Some, slice_get, refl, ap, sym, ◌∙◌, arith, length-append}
 use denote.Param.Members.{Mut}
 use Rattle.std.specs.Option.{IfNone}
+use Rattle.std.proofs.lemmas.Option.{slice_get_within}
 use Rattle.std.specs.Fn.{Called, AlwaysReturns}
 use Rattle.std.specs.List.{AllWithin}
 use Rattle.std.specs.List.Sorted.{IsPartitionedBy, IsPartitionPoint}
@@ -193,3 +194,16 @@ module _ {X : Type 0} where
         | inr from ↦ halved.behind k d (omega (arith, from, start-more cs i h)) b
       ]),
     )
+
+    -- where the last value passes all do
+    pub last-passes : (cs : List (List X)) (v : X) → 0 < length cs → slice_get (get_or cs (length cs - 1) []) (length (get_or cs (length cs - 1) []) - 1) ≡ Some v → p v ≡ true → IsPartitionedBy p (flat cs) → passing p (flat cs) ≡ length (flat cs)
+    last-passes cs v some last passes parts =
+        let i = length cs - 1 in
+        let place = length (get_or cs i []) - 1 in
+        let k = start cs i + place in
+        let stands : Stands cs i place k = (omega (arith, some), slice_get_within (get_or cs i []) place v last, refl) in
+        let end : length (flat cs) ≡ suc k = omega (arith, start-more cs i stands.0, start-all cs (i + 1) (omega (arith, some)), stands.1) in
+        sym (passing-point p (flat cs) (length (flat cs)) (omega arith) (
+          (λ j d a b. parts j k d (omega (arith, b, end)) (omega (arith, end)) (ap p (flat-or cs i place k d stands ∙ get-or (get_or cs i []) place v d last) ∙ passes)),
+          (λ j d a b. absurd (omega (arith, a, b))),
+        ))

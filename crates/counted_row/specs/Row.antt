@@ -7,7 +7,10 @@
 --     IsRow    the parts of a row fit together
 --     Stands   the k-th value stands at a place of a chunk
 --     passing  how many values in front pass a test
-use Rattle.std.specs.Prelude.{◌≡◌, ℕ, ◌+◌, ◌*◌, ◌^◌, ◌<◌, ◌≤◌, min, suc, Bool, cond, List, [], ◌∷◌, ◌++◌, length, take, slice_index_or, refl}
+--     IsChanged  a call made of the k-th value another, and of no other value
+use Rattle.std.specs.Prelude.{◌≡◌, ℕ, ◌+◌, ◌*◌, ◌^◌, ◌<◌, ◌≤◌, min, suc, Bool, cond, List, [], ◌∷◌, ◌++◌, length, take, slice_get, slice_set, slice_index_or, Some, refl}
+use Rattle.std.specs.Borrow.{MutBor}
+use Rattle.std.specs.Fn.{Once, FnOnceReturnsAtMut}
 use Rattle.std.specs.Coded.{Coded, code_by, coded×, coded_list, coded_ℕ}
 
 pub record Row (X : Type 0) : Type 0 where
@@ -53,3 +56,11 @@ Stands cs i place k = (i < length cs) × (place < length (slice_index_or cs i []
 abbrev pub passing : {X : Type 0} → (X → Bool) → List X → ℕ
 passing p [] = 0
 passing p (x ∷ xs) = cond (p x) (suc (passing p xs)) 0
+
+-- a call at the k-th value gave r and left another value there, and no other value changed
+pub record IsChanged {F X R : Type 0} (g : Once F (MutBor X × Unit {0}) (R × (MutBor X × Unit {0}))) (f : F) (old new : List X) (k : ℕ) (r : R) : Type 0 where
+  pub before : X
+  pub after : X
+  pub there : slice_get old k ≡ Some before
+  pub called : FnOnceReturnsAtMut g f before r after
+  pub others : new ≡ slice_set old k after

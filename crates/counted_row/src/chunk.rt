@@ -1,6 +1,7 @@
 //! At most 256 values, in memory that is reserved.
 
-ghost use Rattle.std.specs.Prelude.{◌≡◌, ℕ, ◌+◌, ◌<◌, ◌≤◌, [], ◌∷◌, ◌++◌, length, drop, slice_get, slice_set, option_copied, IfOk, insert, remove, reverse};
+ghost use Rattle.std.specs.Prelude.{◌≡◌, ℕ, ◌+◌, ◌-◌, ◌<◌, ◌≤◌, [], ◌∷◌, ◌++◌, length, drop, slice_get, slice_set, option_copied, IfOk, insert, remove, reverse};
+ghost use Rattle.counted_row.specs.Row.{IsChanged};
 ghost use Rattle.std.specs.Vec.{vec_capacity};
 
 use std::alloc::{AllocError, Global};
@@ -69,6 +70,13 @@ impl<T: Drop> Chunk<T> {
         self.values.get(k)
     }
 
+    // The last value.
+    pub(crate) fn last(&self) -> Option<&T>
+        ensures { option_copied result ≡ slice_get self.now (length self.now - 1) }
+    {
+        self.values.get(self.values.len().saturating_sub(1))
+    }
+
     // The values from a place on.
     pub(crate) fn tail(&self, place: usize) -> &[T]
         requires { place ≤ length self.now }
@@ -85,6 +93,13 @@ impl<T: Drop> Chunk<T> {
         let _inserted = self.values.insert(k, value);
     }
 
+    pub(crate) fn push(&mut self, value: T)
+        requires { length self.old < 256 }
+        ensures { self.new ≡ self.old ++ value ∷ [] }
+    {
+        let _pushed = self.values.push(value);
+    }
+
     pub(crate) fn remove(&mut self, k: usize) -> T
         requires { k < length self.old }
         ensures value { slice_get self.old k ≡ Some result }
@@ -99,6 +114,15 @@ impl<T: Drop> Chunk<T> {
         ensures values { self.new ≡ slice_set self.old k value }
     {
         mem::replace(&mut self.values[k], value)
+    }
+
+    // Changes the value of a place where it stands.
+    pub(crate) fn change<R, F: FnOnce(&mut T) -> R>(&mut self, k: usize, change: F) -> R
+        requires within { k < length self.old }
+        requires callable { F.IsAlwaysCallable change }
+        ensures { IsChanged F.FnOnce change self.old self.new k result }
+    {
+        change(&mut self.values[k])
     }
 
     // Moves all values of another chunk behind its own.

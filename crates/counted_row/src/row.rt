@@ -5,12 +5,13 @@ ghost use Rattle.std.specs.Prelude.{Bool, true, false};
 ghost use Rattle.std.specs.Fn.{ComputesKey};
 ghost use Rattle.std.specs.List.Sorted.{IsPartitionedBy, IsPartitionPoint};
 ghost use Rattle.std.specs.Vec.{vec_capacity};
-ghost use Rattle.counted_row.specs.Row.{flat, IsDense, AreEmpty, Stands, passing, room_of};
+ghost use Rattle.counted_row.specs.Row.{flat, IsDense, AreEmpty, Stands, passing, room_of, IsChanged};
 
 use crate::chunk::{CHUNK, Chunk, HALF};
 use crate::search::{first_failing, point_in};
 use crate::steps::{
-    Spot, borrow_at, exchange, fill_stock, merge_at, open_last, put_in, split_at, spot_of, take_out,
+    Spot, borrow_at, change_in, exchange, fill_stock, merge_at, open_last, push_in, put_in,
+    split_at, spot_of, take_out,
 };
 use std::alloc::{AllocError, Global};
 use std::marker::Model;
@@ -212,8 +213,7 @@ fn put_last<T: Drop>(chunks: &mut Vec<Chunk<T>>, stock: &mut Vec<Chunk<T>>, valu
 {
     open_end(chunks, stock);
     let last = chunks.len() - 1;
-    let count = chunks[last].len();
-    put_in(chunks, last, count, value);
+    push_in(chunks, last, value);
 }
 
 impl<T: Drop> CountedRow<T> {
@@ -297,6 +297,26 @@ impl<T: Drop> CountedRow<T> {
         Some(old)
     }
 
+    /// Changes the first value that fails a test where it stands, where none passes it behind one that fails it, and gives what the change gives, if one fails it. It takes no memory.
+    pub fn change_at_point<R, P: FnMut(&T) -> bool, F: FnOnce(&mut T) -> R>(
+        &mut self,
+        pred: P,
+        change: F,
+    ) -> Option<R>
+        requires tests { P.IsAlwaysCallable pred }
+        requires changes { F.IsAlwaysCallable change }
+        ensures some { IfSome result (λ r. (p : T → Bool) → ComputesKey P.FnMut p pred → IsPartitionedBy p self.old.items → IsChanged F.FnOnce change self.old.items self.new.items (passing p self.old.items) r) }
+        ensures none { IfNone result ((p : T → Bool) → ComputesKey P.FnMut p pred → IsPartitionedBy p self.old.items → passing p self.old.items ≡ length self.old.items) }
+        ensures same { IfNone result (self.new.items ≡ self.old.items) }
+        ensures spare { self.new.spare ≡ self.old.spare }
+    {
+        let Some(first) = first_failing(&self.chunks, pred) else {
+            return None;
+        };
+        let given = change_in(&mut self.chunks, first.chunk, first.place, change);
+        Some(given)
+    }
+
     /// Takes out the k-th value, if there is one. It takes no memory.
     pub fn remove(&mut self, k: usize) -> Option<T>
         ensures value { result ≡ slice_get self.old.items k }
@@ -333,7 +353,7 @@ impl<T: Drop> CountedRow<T> {
         ensures room { n ≤ self.old.spare → IsOk result }
         ensures spare { self.old.spare ≤ self.new.spare }
     {
-        if n == 0 {
+        if n <= self.spare() {
             return Ok(());
         }
         if self.len > MOST || n > MOST - self.len {

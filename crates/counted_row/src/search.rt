@@ -121,10 +121,10 @@ fn settled<T: Drop>(chunks: &Vec<Chunk<T>>, end: Spot) -> Option<Spot>
     })
 }
 
-/// Where the first value stands that fails a test. No chunk's values are counted.
+/// Where the first value stands that fails a test. It looks at the last value first, and no chunk's values are counted.
 pub(crate) fn first_failing<T: Drop, P: FnMut(&T) -> bool>(
     chunks: &Vec<Chunk<T>>,
-    pred: P,
+    mut pred: P,
 ) -> Option<Spot>
     requires callable { P.IsAlwaysCallable pred }
     requires dense { IsDense chunks.now.items }
@@ -134,6 +134,11 @@ pub(crate) fn first_failing<T: Drop, P: FnMut(&T) -> bool>(
 {
     if chunks.len() == 0 {
         return None;
+    }
+    if let Some(last) = chunks[chunks.len() - 1].last() {
+        if pred(last) {
+            return None;
+        }
     }
     settled(chunks, end_of(chunks, pred))
 }

@@ -2,7 +2,7 @@
 
 ghost use Rattle.std.specs.Prelude.{◌≡◌, ℕ, List, ◌+◌, ◌^◌, ◌<◌, ◌≤◌, [], ◌∷◌, ◌++◌, length, take, slice_get, slice_set, slice_index_or, insert, remove, option_copied, IfSome, IfNone, IfOk, OnOk, OnErr, IsOk};
 ghost use Rattle.std.specs.Vec.{vec_capacity};
-ghost use Rattle.counted_row.specs.Row.{flat, IsDense, AreEmpty, Stands};
+ghost use Rattle.counted_row.specs.Row.{flat, IsDense, AreEmpty, Stands, IsChanged};
 
 use crate::chunk::{CHUNK, Chunk, HALF};
 use std::alloc::AllocError;
@@ -80,6 +80,16 @@ pub(crate) fn put_in<T: Drop>(chunks: &mut Vec<Chunk<T>>, i: usize, place: usize
     chunks[i].insert(place, value);
 }
 
+/// Puts a value last in a chunk that is not full.
+pub(crate) fn push_in<T: Drop>(chunks: &mut Vec<Chunk<T>>, i: usize, value: T)
+    requires chunk { i < length chunks.old.items }
+    requires room { length (slice_index_or chunks.old.items i []) < 256 }
+    ensures chunks { chunks.new.items ≡ slice_set chunks.old.items i (slice_index_or chunks.old.items i [] ++ value ∷ []) }
+    ensures room { vec_capacity chunks.new ≡ vec_capacity chunks.old }
+{
+    chunks[i].push(value);
+}
+
 /// Takes a value out of a chunk.
 pub(crate) fn take_out<T: Drop>(chunks: &mut Vec<Chunk<T>>, i: usize, place: usize) -> T
     requires chunk { i < length chunks.old.items }
@@ -100,6 +110,22 @@ pub(crate) fn exchange<T: Drop>(chunks: &mut Vec<Chunk<T>>, i: usize, place: usi
     ensures room { vec_capacity chunks.new ≡ vec_capacity chunks.old }
 {
     chunks[i].replace(place, value)
+}
+
+/// Changes a value of a chunk where it stands.
+pub(crate) fn change_in<T: Drop, R, F: FnOnce(&mut T) -> R>(
+    chunks: &mut Vec<Chunk<T>>,
+    i: usize,
+    place: usize,
+    change: F,
+) -> R
+    requires chunk { i < length chunks.old.items }
+    requires within { place < length (slice_index_or chunks.old.items i []) }
+    requires callable { F.IsAlwaysCallable change }
+    ensures chunks { (values : List T) × IsChanged F.FnOnce change (slice_index_or chunks.old.items i []) values place result × (chunks.new.items ≡ slice_set chunks.old.items i values) }
+    ensures room { vec_capacity chunks.new ≡ vec_capacity chunks.old }
+{
+    chunks[i].change(place, change)
 }
 
 /// Splits a full chunk, with an empty one from the stock.
@@ -131,8 +157,7 @@ pub(crate) fn borrow_at<T: Drop>(chunks: &mut Vec<Chunk<T>>, i: usize)
     ensures room { vec_capacity chunks.new ≡ vec_capacity chunks.old }
 {
     let value = chunks[i + 1].remove(0);
-    let count = chunks[i].len();
-    chunks[i].insert(count, value);
+    chunks[i].push(value);
 }
 
 /// Moves all of the next chunk to the end of a chunk, and puts the empty one into the stock.

@@ -126,10 +126,14 @@ pub fn has(opened: &Opened, wanted: &[&[u8]]) -> bool {
     if found.len() != wanted.len() {
         return false;
     }
-    found
-        .iter()
-        .zip(wanted)
-        .all(|(placed, bytes)| placed.bytes.as_slice() == *bytes)
+    let mut index = 0u32;
+    for bytes in wanted {
+        if found.get(index) != Some(*bytes) {
+            return false;
+        }
+        index = index.saturating_add(1);
+    }
+    true
 }
 
 /// The bytes of a disk.

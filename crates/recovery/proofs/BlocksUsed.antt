@@ -1,20 +1,19 @@
 -- The blocks of pieces, one after another.
-use Rattle.std.proofs.Common.{◌≡◌, ℕ, zero, suc, ◌+◌, ◌-◌, ◌*◌, ◌/◌, ◌%◌, ◌≤◌, ◌<◌, ◌^◌, ◌==◌, nat_lt, Bool, true, false, cond, ◌&&◌, ◌||◌, List, [], ◌∷◌, ◌++◌, length, refl, sym, ◌∙◌, ap, subst, arith}
+use Rattle.std.proofs.Common.{◌≡◌, ℕ, zero, suc, ◌+◌, ◌-◌, ◌*◌, ◌/◌, ◌%◌, ◌≤◌, ◌<◌, ◌^◌, ◌==◌, nat_lt, Bool, true, false, not, nat_le, cond, ◌&&◌, ◌||◌, List, [], ◌∷◌, length, refl, sym, ◌∙◌, ap, subst, arith}
 use Rattle.std.specs.List.{list_all}
-use Rattle.std.proofs.Math.Nat.{div-eq_of_lt-le, div-lt_iff_lt-mul, div-mul-le_self}
+use Rattle.std.proofs.Math.Nat.{div-eq_of_lt-le, div-mul-le_self}
 use Rattle.std.proofs.lemmas.Nat.{le-div}
 use Rattle.std.proofs.lemmas.Bool.{eqb-true, eq-eqb, ltb-true, leb-true}
-use Rattle.std.proofs.lemmas.List.Folds.{list_all-append}
-use Rattle.voice_units.specs.Spots.{Spot, spots_from, spots_of}
+use Rattle.voice_units.specs.Spots.{spots_from, spots_of}
 use Rattle.std.specs.Prelude.{filter}
-use Rattle.voice_units.specs.Blocks.{BlockPair, pair_at, pairs_at, same_pair, has_pair, distinct}
+use Rattle.voice_units.specs.Blocks.{BlockPair, pairs_at, same_pair, has_pair, distinct}
 use Rattle.voice_units.specs.declared.pieces.Piece.{Piece}
 use Rattle.voice_units.proofs.Distinct.{has_pair-distinct}
 use Rattle.voice_units.proofs.PiecesOfRopes.{both}
-use Rattle.voice_model.specs.Spelling.{is_piece, are_pieces}
+use Rattle.voice_model.specs.Spelling.{is_piece, are_apart, are_pieces}
 use Rattle.voice_model.proofs.PlacesKept.{same_itself}
-use Rattle.voice_units.specs.Spots.{samples_in}
-use Rattle.rope_algebra.specs.Kept.{LieInFiles}
+use Rattle.voice_units.specs.Spots.{samples_in, IsContinued, IsNormal}
+use Rattle.rope_algebra.specs.Kept.{LieInFiles, IsRope}
 use Rattle.rope_table.specs.Table.{uses_in}
 
 -- a later place in front of the next block lies in the same block
@@ -53,19 +52,6 @@ either_side P x at below above = by_test (nat_lt x at) refl
     by_test : (b : Bool) → nat_lt x at ≡ b → P
     by_test true e = below (ltb-true x at e)
     by_test false e = above (grind (arith, e))
-
-pub is_used : (n : ℕ) → ¬ (n ≡ 0) → nat_lt 0 n ≡ true
-is_used n h = grind (arith, h)
-
-pub small_index : (block at : ℕ) → 8 ≤ block → at < 2 ^ 33 → at / block < 2 ^ 32
-small_index block at some high = let k : 0 < block = omega (arith, some) in (div-lt_iff_lt-mul k).1 (omega (arith, some, high))
-
-pub pairs-append : (block : ℕ) (xs ys : List Spot) → pairs_at block (xs ++ ys) ≡ pairs_at block xs ++ pairs_at block ys
-pairs-append block [] ys = refl
-pairs-append block (x ∷ xs) ys = ap (λ l. pair_at block x ∷ l) (pairs-append block xs ys)
-
-pub all-append : (p : BlockPair → Bool) (block : ℕ) (xs ys : List Spot) → list_all p (pairs_at block (xs ++ ys)) ≡ (list_all p (pairs_at block xs) && list_all p (pairs_at block ys))
-all-append p block xs ys = ap (list_all p) (pairs-append block xs ys) ∙ list_all-append p (pairs_at block xs) (pairs_at block ys)
 
 pub same_all : {A : Type 0} (p q : A → Bool) → ((x : A) → p x ≡ q x) → (xs : List A) → list_all p xs ≡ list_all q xs
 same_all p q same [] = refl
@@ -140,8 +126,28 @@ in_files : (ps : List Piece) → list_all is_piece ps ≡ true → LieInFiles ps
 in_files [] h = tt
 in_files (p ∷ ps) h = let tests = both (is_piece p) (list_all is_piece ps) h in (leb-true (p.from + p.len) (2 ^ 30) (both _ _ tests.0).1, in_files ps tests.1)
 
-pub lie_in_files : (ps : List Piece) → are_pieces ps ≡ true → LieInFiles ps
-lie_in_files ps h = let g = both _ _ (both _ _ h).0 in in_files ps (both _ _ g.0).1
+not_continued : (p q : Piece) → not ((p.file == q.file) && (p.from + p.len == q.from)) ≡ true → ¬ IsContinued p q
+not_continued p q e = λ c.
+    let joined : ((p.file == q.file) && (p.from + p.len == q.from)) ≡ true = ap (λ b. b && (p.from + p.len == q.from)) (eq-eqb p.file q.file c.0) ∙ eq-eqb (p.from + p.len) q.from c.1 in
+    let never : true ≡ false = sym e ∙ ap not joined in
+    cc
 
-pub few_samples : (ps : List Piece) → are_pieces ps ≡ true → samples_in ps ≤ 2 ^ 30
-few_samples ps h = leb-true (samples_in ps) (2 ^ 30) (both _ _ (both _ _ h).0).1
+some_samples : (p : Piece) → is_piece p ≡ true → 1 ≤ p.len
+some_samples p h = leb-true 1 p.len (both _ _ (both _ _ h).0).1
+
+in_normal_form : (ps : List Piece) → list_all is_piece ps ≡ true → are_apart ps ≡ true → IsNormal ps
+in_normal_form [] h apart = tt
+in_normal_form (p ∷ []) h apart = some_samples p (both (is_piece p) true h).0
+in_normal_form (p ∷ q ∷ ps) h apart =
+    let tests = both (is_piece p) (list_all is_piece (q ∷ ps)) h in
+    let ends = both (not ((p.file == q.file) && (p.from + p.len == q.from))) (are_apart (q ∷ ps)) apart in
+    (some_samples p tests.0, not_continued p q ends.0, in_normal_form (q ∷ ps) tests.1 ends.1)
+
+-- the pieces of a change are those of a rope
+pub are_rope : (ps : List Piece) → are_pieces ps ≡ true → IsRope ps
+are_rope ps h =
+    let apart = both _ (are_apart ps) h in
+    let few = both _ (nat_le (samples_in ps) (2 ^ 30)) apart.0 in
+    let each = (both (nat_le (length ps) 4096) (list_all is_piece ps) few.0).1 in
+    let most = leb-true (samples_in ps) (2 ^ 30) few.1 in
+    record { normal = in_normal_form ps each apart.1; ends = in_files ps each; total = omega (arith, most) }

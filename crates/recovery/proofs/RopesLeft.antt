@@ -13,7 +13,7 @@ use Rattle.voice_model.specs.declared.calls.Class.{Class}
 use Rattle.interest_table.specs.Table.{is_named}
 use Rattle.interest_table.proofs.Found.{others, is_that_row}
 use Rattle.rope_table.specs.declared.ropes.Rope.{Rope}
-use Rattle.rope_table.specs.Table.{held_back, idled}
+use Rattle.rope_table.specs.Table.{settled}
 use Rattle.recovery.specs.Shown.{RowsGone, left_idle, rows_without}
 use Rattle.recovery.proofs.Ropes.{cons_same, swapped}
 use Rattle.recovery.proofs.RowsGone.{filter_none}
@@ -166,21 +166,21 @@ left_as_it_is form graces now class rows id has (rope ∷ ropes) = cons_same (sy
     one false e = left_by form graces now class rows (id ∷ []) rope false (has_row rows rope.id) (ap (λ b. b || false) e) refl
 
 -- one that has none is idle
-pub left_once : (form : ℕ) (graces : Graces) (now class : ℕ) (rows : List Row) (id last wait : ℕ) → has_row rows id ≡ false → last ≡ cond (form == 2) class 0 → wait ≡ wait_of graces last → (ropes : List Rope) → map (held_back id false) (map (idled id now last wait) ropes) ≡ map (left_idle form graces now class rows (id ∷ [])) ropes
+pub left_once : (form : ℕ) (graces : Graces) (now class : ℕ) (rows : List Row) (id last wait : ℕ) → has_row rows id ≡ false → last ≡ cond (form == 2) class 0 → wait ≡ wait_of graces last → (ropes : List Rope) → map (settled id now last wait) ropes ≡ map (left_idle form graces now class rows (id ∷ [])) ropes
 left_once form graces now class rows id last wait has is waits [] = refl
 left_once form graces now class rows id last wait has is waits (rope ∷ ropes) = cons_same (one (rope.id == id) refl) (left_once form graces now class rows id last wait has is waits ropes)
   where
     idle : Rope
-    idle = record rope { idle = now; last = last; wait = wait }
+    idle = record rope { idle = now; last = last; wait = wait; kept = false }
 
-    one : (b : Bool) → (rope.id == id) ≡ b → held_back id false (idled id now last wait rope) ≡ left_idle form graces now class rows (id ∷ []) rope
+    one : (b : Bool) → (rope.id == id) ≡ b → settled id now last wait rope ≡ left_idle form graces now class rows (id ∷ []) rope
     one true e =
-        ap (λ b. held_back id false (cond b idle rope)) e ∙ ap (λ b. cond b (record idle { kept = false }) idle) e
+        ap (λ b. cond b idle rope) e
         ∙ ap (λ w. let x : Rope = record rope { idle = now; last = last; wait = w; kept = false } in x) waits
         ∙ ap (λ n. let x : Rope = record rope { idle = now; last = n; wait = wait_of graces n; kept = false } in x) is
         ∙ sym (left_by form graces now class rows (id ∷ []) rope true false (ap (λ b. b || false) (swapped id rope.id ∙ e)) (ap (has_row rows) (eqb-true rope.id id e) ∙ has))
     one false e =
-        ap (λ b. held_back id false (cond b idle rope)) e ∙ ap (λ b. cond b (record rope { kept = false }) rope) e
+        ap (λ b. cond b idle rope) e
         ∙ sym (left_by form graces now class rows (id ∷ []) rope false (has_row rows rope.id) (ap (λ b. b || false) (swapped id rope.id ∙ e)) refl)
 
 -- one of several

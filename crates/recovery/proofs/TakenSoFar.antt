@@ -1,7 +1,8 @@
 -- What the records taken so far rebuild.
-use Rattle.std.proofs.Common.{◌≡◌, ℕ, ◌+◌, ◌≤◌, ◌<◌, false, List, [], ◌∷◌, length, drop, get_or, Option, Some, None, refl, sym, ◌∙◌, ap}
+use Rattle.std.proofs.Common.{◌≡◌, ℕ, zero, suc, ◌+◌, ◌≤◌, false, List, [], ◌∷◌, length, drop, Option, Some, None, refl, sym, ◌∙◌, ap, arith}
+use Rattle.std.specs.Prelude.{slice_get}
+use Rattle.std.proofs.lemmas.Option.{slice_get_within, get_or_from_slice_get}
 use Rattle.std.proofs.Math.ListN.{drop_of_length-le}
-use Rattle.voice_journal.specs.declared.lists.Placed.{Placed}
 use Rattle.voice_units.specs.declared.shapes.Shape.{Shape}
 use Rattle.voice_model.specs.Spelling.{change_in}
 use Rattle.voice_model.specs.Replay.{Rebuilt, nothing_rebuilt, acted}
@@ -44,10 +45,14 @@ one_refused shape building all left rest one h is bad = h.same ∙ ap (replayed 
     by_option (Some c) e = ap (λ b. if_allowed b one.at (replayed (acted h.what c) rest)) (sym e)
 
 -- a payload and the rest, as records
-pub next_record : (payloads : List Placed) (k : ℕ) (payload : Placed) → k < length payloads → payload ≡ get_or payloads k payload
-    → numbered k (bytes_of (drop k payloads)) ≡ record { at = k; payload = payload.bytes.items } ∷ numbered (k + 1) (bytes_of (drop (k + 1) payloads))
-next_record payloads k payload h is = ap (λ l. numbered k (bytes_of l)) (drop_next payloads k payload h is)
+pub next_record : (records : List Record) (k : ℕ) (one : Record) → slice_get records k ≡ Some one → numbered k (bytes_of (drop k records)) ≡ record { at = k; payload = one.payload } ∷ numbered (k + 1) (bytes_of (drop (k + 1) records))
+next_record records k one is = ap (λ l. numbered k (bytes_of l)) (drop_next records k one (slice_get_within records k one is) (sym (get_or_from_slice_get records k one one is)))
+
+gone_past : (records : List Record) (k : ℕ) → slice_get records k ≡ None → length records ≤ k
+gone_past [] k is = omega arith
+gone_past (r ∷ records) zero is = cc
+gone_past (r ∷ records) (suc k) is = let rest = gone_past records k is in omega (arith, rest)
 
 -- no payload is left
-pub no_record : (payloads : List Placed) (k : ℕ) → length payloads ≤ k → numbered k (bytes_of (drop k payloads)) ≡ []
-no_record payloads k h = ap (λ l. numbered k (bytes_of l)) (drop_of_length-le payloads h)
+pub no_record : (records : List Record) (k : ℕ) → slice_get records k ≡ None → numbered k (bytes_of (drop k records)) ≡ []
+no_record records k is = ap (λ l. numbered k (bytes_of l)) (drop_of_length-le records (gone_past records k is))

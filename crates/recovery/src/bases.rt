@@ -14,7 +14,6 @@ ghost use Rattle.recovery.specs.Building.{Builds, IsBuilding, IsBuilt, block_in,
 use crate::building::{Block, Building, Stage};
 use crate::effects::wait_after;
 use rope_algebra::Pieces;
-use std::alloc::Global;
 use voice_blocks::{BlockMap, Owner};
 use voice_model::{Change, Pair};
 use voice_units::{Moment, NoMemory, Piece, RopeId, Shape};
@@ -172,30 +171,29 @@ impl Building {
         are_placed(&self.parts.blocks, self.parts.ropes.block(), pieces)
     }
 
-    /// A rope, where it may come. After false or want of memory replay ends.
+    /// A rope, where it may come. Its pieces are moved into it. After false or want of memory replay ends.
     fn add_base_rope(
         &mut self,
-        alloc: Global,
         shape: &Shape,
         id: RopeId,
         idle: Moment,
         last: u8,
-        pieces: &[Piece],
+        pieces: Vec<Piece>,
     ) -> Result<bool, NoMemory>
         requires number { 1 ≤ id }
         requires class { last ≤ 3 }
-        requires grammar { are_pieces pieces.now ≡ true }
+        requires grammar { are_pieces pieces.items ≡ true }
         requires building { IsBuilding shape.now self.old }
-        ensures legal { (r : Rebuilt) → Builds self.old r → IfOk result (λ done. done ≡ may_be_rope r id idle pieces.now) }
-        ensures done { (r : Rebuilt) (c : Change) → Builds self.old r → r.shape ≡ shape.now → result ≡ Ok true → is_legal r c ≡ true → keeps_grammar c ≡ true → acted r c ≡ with_base_rope r id idle last pieces.now → Builds self.new (acted r c) }
+        ensures legal { (r : Rebuilt) → Builds self.old r → IfOk result (λ done. done ≡ may_be_rope r id idle pieces.items) }
+        ensures done { (r : Rebuilt) (c : Change) → Builds self.old r → r.shape ≡ shape.now → result ≡ Ok true → is_legal r c ≡ true → keeps_grammar c ≡ true → acted r c ≡ with_base_rope r id idle last pieces.items → Builds self.new (acted r c) }
     {
-        if !self.may_add_rope(id, idle, pieces) {
+        if !self.may_add_rope(id, idle, &pieces) {
             return Ok(false);
         }
         if self.parts.ropes.count() > 4_294_967_293 {
             return Err(NoMemory);
         }
-        let rope = Pieces::of(alloc, pieces)?;
+        let rope = Pieces::from_normal(pieces)?;
         let most = count_of(&self.noted)?;
         self.parts.ropes.reserve(most)?;
         let wait = wait_after(&shape.graces, last);
@@ -207,41 +205,39 @@ impl Building {
     /// Tries a rope of a base in form 1.
     pub(crate) fn try_rope(
         &mut self,
-        alloc: Global,
         shape: &Shape,
         id: RopeId,
         idle: Moment,
-        pieces: &[Piece],
+        pieces: Vec<Piece>,
     ) -> Result<bool, NoMemory>
-        requires grammar { keeps_grammar (Change.Rope id idle pieces.now) ≡ true }
+        requires grammar { keeps_grammar (Change.Rope id idle pieces.items) ≡ true }
         requires building { IsBuilding shape.now self.old }
-        ensures legal { (r : Rebuilt) → Builds self.old r → IfOk result (λ done. done ≡ is_legal r (Change.Rope id idle pieces.now)) }
-        ensures done { (r : Rebuilt) → Builds self.old r → r.shape ≡ shape.now → result ≡ Ok true → Builds self.new (acted r (Change.Rope id idle pieces.now)) }
+        ensures legal { (r : Rebuilt) → Builds self.old r → IfOk result (λ done. done ≡ is_legal r (Change.Rope id idle pieces.items)) }
+        ensures done { (r : Rebuilt) → Builds self.old r → r.shape ≡ shape.now → result ≡ Ok true → Builds self.new (acted r (Change.Rope id idle pieces.items)) }
     {
         if self.parts.form != 1 {
             return Ok(false);
         }
-        self.add_base_rope(alloc, shape, id, idle, 0, pieces)
+        self.add_base_rope(shape, id, idle, 0, pieces)
     }
 
     /// Tries a rope of a base in form 2.
     pub(crate) fn try_rope2(
         &mut self,
-        alloc: Global,
         shape: &Shape,
         id: RopeId,
         idle: Moment,
         last: u8,
-        pieces: &[Piece],
+        pieces: Vec<Piece>,
     ) -> Result<bool, NoMemory>
-        requires grammar { keeps_grammar (Change.Rope2 id idle last pieces.now) ≡ true }
+        requires grammar { keeps_grammar (Change.Rope2 id idle last pieces.items) ≡ true }
         requires building { IsBuilding shape.now self.old }
-        ensures legal { (r : Rebuilt) → Builds self.old r → IfOk result (λ done. done ≡ is_legal r (Change.Rope2 id idle last pieces.now)) }
-        ensures done { (r : Rebuilt) → Builds self.old r → r.shape ≡ shape.now → result ≡ Ok true → Builds self.new (acted r (Change.Rope2 id idle last pieces.now)) }
+        ensures legal { (r : Rebuilt) → Builds self.old r → IfOk result (λ done. done ≡ is_legal r (Change.Rope2 id idle last pieces.items)) }
+        ensures done { (r : Rebuilt) → Builds self.old r → r.shape ≡ shape.now → result ≡ Ok true → Builds self.new (acted r (Change.Rope2 id idle last pieces.items)) }
     {
         if self.parts.form != 2 {
             return Ok(false);
         }
-        self.add_base_rope(alloc, shape, id, idle, last, pieces)
+        self.add_base_rope(shape, id, idle, last, pieces)
     }
 }

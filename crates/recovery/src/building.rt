@@ -1,6 +1,6 @@
 //! The tables while a list of changes is replayed.
 
-ghost use Rattle.std.specs.Prelude.{◌≡◌, ◌≢◌, ℕ, true, length, is_some, Some, Ok, IfOk};
+ghost use Rattle.std.specs.Prelude.{◌≡◌, ◌≢◌, ℕ, ◌+◌, ◌<◌, ◌^◌, true, length, is_some, Some, Ok, IfOk, OnOk};
 ghost use Rattle.voice_units.specs.Blocks.{BlockPair};
 ghost use Rattle.voice_blocks.specs.declared.owner.Holder.{Holder};
 ghost use Rattle.voice_blocks.specs.Holders.{holder_at, block_of};
@@ -17,7 +17,7 @@ use rope_table::RopeTable;
 use std::alloc::Global;
 use voice_blocks::{BlockMap, Owner};
 use voice_model::Change;
-use voice_units::{Moment, NoMemory, RopeId, Shape};
+use voice_units::{Moment, NoMemory, Piece, RopeId, Shape};
 
 /// What a list of changes may go on with: anything; the files of a base; its ropes; no base any more.
 #[derive(Clone, Copy)]
@@ -77,13 +77,12 @@ impl Building {
         self.noted.clear();
     }
 
-    /// Tries a change of a kind that a running server makes.
-    fn go_on(&mut self, alloc: Global, shape: &Shape, change: &Change) -> Result<bool, NoMemory>
-        requires grammar { keeps_grammar change.now ≡ true }
-        requires kind { is_some (brings change.now) ≡ true }
-        requires building { IsBuilding shape.now self.old }
-        ensures legal { (r : Rebuilt) → Builds self.old r → r.shape ≡ shape.now → IfOk result (λ done. done ≡ is_legal r change.now) }
-        ensures done { (r : Rebuilt) → Builds self.old r → r.shape ≡ shape.now → result ≡ Ok true → Builds self.new (acted r change.now) }
+    /// Ends a base, where a change of a kind that a running server makes is to follow; want of memory where one more rope or row would be too many.
+    fn end_base(&mut self) -> Result<(), NoMemory>
+        ensures parts { (r : Rebuilt) → Builds self.old r → Rebuilds self.new.parts (finished r) }
+        ensures few_ropes { OnOk result (length self.new.parts.ropes.ropes + 1 < 2 ^ 32) }
+        ensures few_rows { OnOk result (length self.new.parts.interests.rows + 1 < 2 ^ 32) }
+        ensures later { OnOk result (self.new.stage ≡ Stage.Later) }
     {
         self.finish();
         if self.parts.ropes.count() > 4_294_967_293 {
@@ -92,9 +91,36 @@ impl Building {
         if self.parts.interests.is_full() {
             return Err(NoMemory);
         }
-        let done = self.parts.apply(alloc, shape, change)?;
         self.stage = Stage::Later;
-        Ok(done)
+        Ok(())
+    }
+
+    /// Tries a change of a kind that a running server makes.
+    fn go_on(&mut self, alloc: Global, shape: &Shape, change: &Change) -> Result<bool, NoMemory>
+        requires grammar { keeps_grammar change.now ≡ true }
+        requires kind { is_some (brings change.now) ≡ true }
+        requires building { IsBuilding shape.now self.old }
+        ensures legal { (r : Rebuilt) → Builds self.old r → r.shape ≡ shape.now → IfOk result (λ done. done ≡ is_legal r change.now) }
+        ensures done { (r : Rebuilt) → Builds self.old r → r.shape ≡ shape.now → result ≡ Ok true → Builds self.new (acted r change.now) }
+    {
+        self.end_base()?;
+        self.parts.apply(alloc, shape, change)
+    }
+
+    /// Tries an edited rope, whose pieces are moved into it.
+    fn go_on_edited(
+        &mut self,
+        shape: &Shape,
+        id: RopeId,
+        pieces: Vec<Piece>,
+    ) -> Result<bool, NoMemory>
+        requires grammar { keeps_grammar (Change.Edited id pieces.items) ≡ true }
+        requires building { IsBuilding shape.now self.old }
+        ensures legal { (r : Rebuilt) → Builds self.old r → r.shape ≡ shape.now → IfOk result (λ done. done ≡ is_legal r (Change.Edited id pieces.items)) }
+        ensures done { (r : Rebuilt) → Builds self.old r → r.shape ≡ shape.now → result ≡ Ok true → Builds self.new (acted r (Change.Edited id pieces.items)) }
+    {
+        self.end_base()?;
+        self.parts.try_edited(shape, id, pieces)
     }
 
     // A base begins.
@@ -137,30 +163,29 @@ impl Building {
         true
     }
 
-    /// Tries a change: true exactly where it may follow, and then it has acted. After false or want of memory replay ends.
+    /// Tries a change: true exactly where it may follow, and then it has acted. The pieces of a rope are moved into it. After false or want of memory replay ends.
     pub(crate) fn apply(
         &mut self,
         alloc: Global,
         shape: &Shape,
-        change: &Change,
+        change: Change,
     ) -> Result<bool, NoMemory>
-        requires grammar { keeps_grammar change.now ≡ true }
+        requires grammar { keeps_grammar change ≡ true }
         requires building { IsBuilding shape.now self.old }
-        ensures legal { (r : Rebuilt) → Builds self.old r → r.shape ≡ shape.now → IfOk result (λ done. done ≡ is_legal r change.now) }
-        ensures done { (r : Rebuilt) → Builds self.old r → r.shape ≡ shape.now → result ≡ Ok true → Builds self.new (acted r change.now) }
+        ensures legal { (r : Rebuilt) → Builds self.old r → r.shape ≡ shape.now → IfOk result (λ done. done ≡ is_legal r change) }
+        ensures done { (r : Rebuilt) → Builds self.old r → r.shape ≡ shape.now → result ≡ Ok true → Builds self.new (acted r change) }
     {
         match change {
-            Change::Base(now, next) => Ok(self.try_base(*now, *next)),
-            Change::Base2(now, next) => Ok(self.try_base2(*now, *next)),
-            Change::File(file, pairs) => self.try_file(*file, pairs.items()),
-            Change::File2(file, pairs) => self.try_file2(*file, pairs.items()),
-            Change::Rope(id, idle, pieces) => {
-                self.try_rope(alloc, shape, *id, *idle, pieces.items())
-            }
+            Change::Edited(id, pieces) => self.go_on_edited(shape, id, pieces.into_items()),
+            Change::Base(now, next) => Ok(self.try_base(now, next)),
+            Change::Base2(now, next) => Ok(self.try_base2(now, next)),
+            Change::File(file, pairs) => self.try_file(file, pairs.items()),
+            Change::File2(file, pairs) => self.try_file2(file, pairs.items()),
+            Change::Rope(id, idle, pieces) => self.try_rope(shape, id, idle, pieces.into_items()),
             Change::Rope2(id, idle, last, pieces) => {
-                self.try_rope2(alloc, shape, *id, *idle, *last, pieces.items())
+                self.try_rope2(shape, id, idle, last, pieces.into_items())
             }
-            _ => self.go_on(alloc, shape, change),
+            other => self.go_on(alloc, shape, &other),
         }
     }
 }

@@ -1,6 +1,7 @@
 //! What the effects of changes do to the tables.
 
-ghost use Rattle.std.specs.Prelude.{◌≡◌, ◌≢◌, ℕ, ◌+◌, ◌<◌, ◌≤◌, ◌^◌, ◌&&◌, not, Bool, true, false, List, [], ◌∷◌, ◌++◌, length, is_some, IfOk, IsOk, Ok, None};
+ghost use Rattle.std.specs.List.{list_all};
+ghost use Rattle.std.specs.Prelude.{◌≡◌, ◌≢◌, ℕ, ◌+◌, ◌<◌, ◌≤◌, ◌^◌, ◌&&◌, nat_lt, not, Bool, true, false, List, [], ◌∷◌, ◌++◌, length, is_some, IfOk, IsOk, Ok, None};
 ghost use Rattle.voice_units.specs.declared.Piece.{Piece};
 ghost use Rattle.voice_units.specs.Spots.{Spot, spots_of, pieces_of};
 ghost use Rattle.voice_units.specs.Blocks.{BlockPair, pairs_at, has_pair};
@@ -56,6 +57,24 @@ impl Parts {
     {
         self.ropes.add(id, pieces, self.moment, 0, wait);
         self.next = id.number() + 1;
+    }
+
+    /// Puts in a rope that comes last, and has no row, where each of its blocks is in use; false exactly where one is not, and then nothing changes. It takes no memory.
+    pub(crate) fn add_used_rope(&mut self, id: RopeId, pieces: Pieces, wait: u32) -> bool
+        requires unknown { rope_of self.old.ropes.ropes id ≡ None }
+        requires room { 1 ≤ self.old.ropes.spare_ropes }
+        requires fits { (pair : BlockPair) → has_pair (pairs_at self.old.ropes.block (spots_of pieces)) pair ≡ true → uses_at self.old.ropes pair + 1 < 2 ^ 32 }
+        ensures value { result ≡ list_all (λ pair. nat_lt 0 (uses_at self.old.ropes pair)) (pairs_at self.old.ropes.block (spots_of pieces)) }
+        ensures shows { (held : List (List Piece)) (form : ℕ) (d : Durable Spot) (samples : List Spot) → Shows held self.old d → IsOrderly form d → d.next ≤ id → pieces ≡ pieces_of samples → wait ≡ d.shape.graces.common → result ≡ true → Shows held self.new (with_rope d id samples) }
+        ensures same { (held : List (List Piece)) (d : Durable Spot) → Shows held self.old d → result ≡ false → Shows held self.new d }
+        ensures blocks { self.new.blocks ≡ self.old.blocks }
+        ensures form { self.new.form ≡ self.old.form }
+    {
+        if !self.ropes.add_used(id, pieces, self.moment, 0, wait) {
+            return false;
+        }
+        self.next = id.number() + 1;
+        true
     }
 
     /// Puts in a row of a live rope whose class and key do not stand; true exactly then.

@@ -8,7 +8,6 @@ ghost use Rattle.voice_model.specs.Changes.{with_rope};
 ghost use Rattle.voice_units.specs.Spots.{spots_from};
 ghost use Rattle.voice_units.specs.declared.Shape.{Shape};
 
-use crate::edits::are_used;
 use crate::parts::Parts;
 use crate::placing::place_all;
 use rope_algebra::Pieces;
@@ -57,29 +56,24 @@ impl Parts {
         true
     }
 
-    /// A rope made of blocks in use.
+    /// A rope made of blocks in use. Its pieces are moved into it.
     pub(crate) fn try_edited(
         &mut self,
-        alloc: Global,
         shape: &Shape,
         id: RopeId,
-        pieces: &[Piece],
+        pieces: Vec<Piece>,
     ) -> Result<bool, NoMemory>
-        requires grammar { keeps_grammar (Change.Edited id pieces.now) ≡ true }
+        requires grammar { keeps_grammar (Change.Edited id pieces.items) ≡ true }
         requires parts { IsParts shape.now self.old }
         requires few { length self.old.ropes.ropes + 1 < 2 ^ 32 }
-        ensures { IsApplied shape.now self.old self.new (Change.Edited id pieces.now) result }
+        ensures { IsApplied shape.now self.old self.new (Change.Edited id pieces.items) result }
     {
         if id.number() < self.next {
             return Ok(false);
         }
-        if !are_used(&self.ropes, pieces) {
-            return Ok(false);
-        }
-        let rope = Pieces::of(alloc, pieces)?;
+        let rope = Pieces::from_normal(pieces)?;
         self.ropes.reserve(0)?;
-        self.add_rope(id, rope, shape.graces.common);
-        Ok(true)
+        Ok(self.add_used_rope(id, rope, shape.graces.common))
     }
 
     /// A recording, whose blocks get these addresses.

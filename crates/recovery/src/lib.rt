@@ -4,7 +4,6 @@
 mod bases;
 mod building;
 mod census;
-mod edits;
 mod effects;
 mod freeing;
 mod kinds;

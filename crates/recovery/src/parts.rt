@@ -58,7 +58,10 @@ impl Parts {
             Change::Wide(id, len, addresses) => {
                 self.try_wide(alloc, shape, *id, *len, addresses.items())
             }
-            Change::Edited(id, pieces) => self.try_edited(alloc, shape, *id, pieces.items()),
+            Change::Edited(id, pieces) => {
+                let copied = Vec::from_slice(alloc, pieces.items())?;
+                self.try_edited(shape, *id, copied)
+            }
             Change::Retained(class, key, id, note) => self.try_retained(*class, key, *id, note),
             Change::Forgotten(class, key) => Ok(self.try_forgotten(shape, *class, key)),
             Change::Census(keys) => self.try_census(alloc, shape, keys.items()),

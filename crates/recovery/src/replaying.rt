@@ -13,7 +13,7 @@ use crate::building::Building;
 use crate::parts::Parts;
 use change_codec::{GetError, get};
 use std::alloc::Global;
-use voice_journal::Placed;
+use voice_journal::RecordList;
 use voice_units::{NoMemory, Shape};
 
 /// Why a list of payloads is refused.
@@ -44,7 +44,7 @@ fn take(
     ensures done { (r : Rebuilt) → Builds building.old r → r.shape ≡ shape.now → result ≡ Ok true → IsTaken building.new r bytes.now }
 {
     match get(alloc, bytes) {
-        Ok(change) => building.apply(alloc, shape, &change),
+        Ok(change) => building.apply(alloc, shape, change),
         Err(GetError::NotAChange(_)) => Ok(false),
         Err(GetError::NoMemory) => Err(NoMemory),
     }
@@ -55,23 +55,25 @@ fn take_all(
     building: &mut Building,
     alloc: Global,
     shape: &Shape,
-    payloads: &[Placed],
+    payloads: &RecordList,
 ) -> Result<(), ReplayError>
     requires count { length payloads.now < 2 ^ 32 - 1 }
     requires nothing { Builds building.old (nothing_rebuilt shape.now) }
     ensures ok { OnOk result ((r : Rebuilt) × Builds building.new r × (replayed (nothing_rebuilt shape.now) (records_of payloads.now) ≡ Replayed.All (finished r))) }
     ensures bad { (k : ℕ) → result ≡ Err (ReplayError.BadChange k) → replayed (nothing_rebuilt shape.now) (records_of payloads.now) ≡ Replayed.Refused k }
 {
-    for (index, payload) in payloads.iter().enumerate() {
-        if !take(building, alloc, shape, &payload.bytes)? {
-            return Err(ReplayError::BadChange(index as u32));
+    let mut index = 0;
+    while let Some(payload) = payloads.get(index) {
+        if !take(building, alloc, shape, payload)? {
+            return Err(ReplayError::BadChange(index));
         }
+        index += 1;
     }
     Ok(())
 }
 
 /// The parts that payloads rebuild on a disk of this shape, each taken as the change that it spells; blocks that no live rope uses are free. `BadChange` comes exactly where a payload spells no change or one that may not follow, and names the first one. It goes over each payload once.
-pub fn replay(alloc: Global, shape: &Shape, payloads: &[Placed]) -> Result<Parts, ReplayError>
+pub fn replay(alloc: Global, shape: &Shape, payloads: &RecordList) -> Result<Parts, ReplayError>
     requires { length payloads.now < 2 ^ 32 - 1 }
     ensures ok { IfOk result (λ parts. (r : Rebuilt) × (replayed (nothing_rebuilt shape.now) (records_of payloads.now) ≡ Replayed.All r) × Rebuilds parts r) }
     ensures bad { (k : ℕ) → result ≡ Err (ReplayError.BadChange k) → replayed (nothing_rebuilt shape.now) (records_of payloads.now) ≡ Replayed.Refused k }

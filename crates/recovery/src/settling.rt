@@ -94,8 +94,7 @@ impl Parts {
         }
         let last = if self.form == 2 { number_of(class) } else { 0 };
         let wait = wait_after(graces, last);
-        self.ropes.set_idle(rope, self.moment, last, wait);
-        self.ropes.keep(rope, false);
+        self.ropes.settle(rope, self.moment, last, wait);
     }
 
     // Each of these ropes that has no row any more is idle since now, and waits by the class of the last one.

@@ -8,7 +8,7 @@ use checkpoint::compact_parts;
 use recovery::{Parts, replay};
 use std::alloc::Global;
 use std::test::Fail;
-use voice_journal::{Payloads, Placed};
+use voice_journal::{Payloads, RecordList};
 use voice_units::{NoMemory, Shape};
 
 // Mixes the bits of a state into the next one, and gives its upper bits.
@@ -134,22 +134,19 @@ fn try_many(
 }
 
 // The payloads as records.
-fn records(alloc: Global, base: &Payloads) -> Result<Vec<Placed>, NoMemory> {
-    let mut list = Vec::new(alloc);
+fn records(alloc: Global, base: &Payloads) -> Result<RecordList, NoMemory> {
+    let mut list = RecordList::new(alloc);
     for k in 0..99_999 {
         let Some(payload) = base.get(k) else {
             return Ok(list);
         };
-        let mut bytes = Vec::new(alloc);
-        bytes.extend_from_slice(payload)?;
-        let place = u64::from(k);
-        list.push(Placed { place, bytes })?;
+        list.push(u64::from(k), payload)?;
     }
     Err(NoMemory)
 }
 
 // The base in form 2 of what these records rebuild.
-fn spelled_again(alloc: Global, shape: &Shape, list: &[Placed]) -> Result<Payloads, NoMemory> {
+fn spelled_again(alloc: Global, shape: &Shape, list: &RecordList) -> Result<Payloads, NoMemory> {
     if list.len() > 99_999 {
         return Err(NoMemory);
     }

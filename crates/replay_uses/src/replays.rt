@@ -6,7 +6,7 @@ use std::alloc::Global;
 use std::process::Abort;
 use std::test::Fail;
 use voice_blocks::Owner;
-use voice_journal::Placed;
+use voice_journal::RecordList;
 use voice_units::{BadShape, Graces, RopeId, Shape};
 
 // All payloads are taken.
@@ -96,12 +96,10 @@ fn shape_of(version: u32) -> Result<Shape, BadShape> {
 
 // The parts that payloads rebuild on a disk of a version.
 fn opened(alloc: Global, version: u32, parts: &[Part]) -> Result<Result<Parts, u64>, Fail> {
-    let mut payloads = Vec::new(alloc);
+    let mut payloads = RecordList::new(alloc);
     for part in parts {
-        payloads.push(Placed {
-            place: 80,
-            bytes: spelled(alloc, *part)?,
-        })?;
+        let bytes = spelled(alloc, *part)?;
+        payloads.push(80, &bytes)?;
     }
     let Ok(shape) = shape_of(version) else {
         return Ok(Err(NO_MEMORY));

@@ -6,7 +6,7 @@ use Rattle.std.specs.List.Sorted.{IsPartitionedBy, IsPartitionPoint}
 use Rattle.voice_units.specs.declared.pieces.Piece.{Piece}
 use Rattle.voice_units.specs.Spots.{spots_in, spots_of, samples_in, IsNormal}
 use Rattle.voice_units.proofs.PiecesOfRopes.{length-spots_from}
-use Rattle.rope_algebra.specs.Kept.{LieInFiles, IsRope, starts_from, first_len}
+use Rattle.rope_algebra.specs.Kept.{LieInFiles, IsRope, IsCounted, starts_from, first_len}
 use Rattle.rope_algebra.proofs.Parts.{drop-append, at_item}
 
 pub length-starts : (n : ℕ) (ps : List Piece) → length (starts_from n ps) ≡ length ps
@@ -101,6 +101,20 @@ one_start all i p starts more n within is pushed h =
 pub all_starts : (all : List Piece) (i : ℕ) (starts : List ℕ) (n : ℕ) → length all ≤ i → AreStarting all (drop i all) starts n → starts ≡ starts_from 0 all
 all_starts all i starts n none h =
     sym (append-nil starts) ∙ ap (λ l. starts ++ starts_from n l) (sym (drop_all i all none)) ∙ h.begin
+
+-- so many samples have the pieces so far, and those to come have the others
+pub record IsSummed (all rest : List Piece) (n : ℕ) : Type 0 where
+  pub total : n + samples_in rest ≡ samples_in all
+
+pub one_summed : (all : List Piece) (i : ℕ) (p : Piece) (n : ℕ) → i < length all → p ≡ get_or all i p → IsSummed all (drop i all) n → IsSummed all (drop (i + 1) all) (n + p.len)
+one_summed all i p n within is h =
+    let here : IsSummed all (p ∷ drop (i + 1) all) n = subst (λ l. IsSummed all l n) (at_item all i p within is) h in
+    record { total = omega (arith, here.total) }
+
+pub all_summed : (all : List Piece) (i : ℕ) (n : ℕ) → length all ≤ i → IsSummed all (drop i all) n → IsRope all → IsCounted all n
+all_summed all i n none h rope =
+    let end : n ≡ samples_in all = (let e : n ≡ n + samples_in [] = omega arith in e) ∙ ap (λ l. n + samples_in l) (sym (drop_all i all none)) ∙ h.total in
+    record { normal = rope.normal; ends = rope.ends; total = end; fits = omega (arith, end, rope.total) }
 
 -- the piece at a place
 pub record IsFound (at k : ℕ) (ps : List Piece) (starts : List ℕ) : Type 0 where

@@ -5,10 +5,10 @@
 --     IsCounted ps n      the pieces of a rope of n samples
 --     starts_from n ps      where pieces start behind n samples
 --     first_len ps      the length of the first piece
---     IsPlaced ps starts n      the pieces of a rope of n samples, and where each starts
+--     IsPlaced ps starts n      the pieces of a rope of n samples, and where each starts if there are two or more
 --     AddsSpots old new ss      what keeps stays, and these places come behind
 --     IsFirstStretch block at ps p      the first stretch behind the first `at` samples
-use Rattle.std.specs.Prelude.{◌≡◌, ℕ, ◌+◌, ◌%◌, ◌<◌, ◌≤◌, ◌^◌, List, [], ◌∷◌, ◌++◌, take, drop}
+use Rattle.std.specs.Prelude.{◌≡◌, ℕ, ◌+◌, ◌%◌, ◌<◌, ◌≤◌, ◌^◌, List, [], ◌∷◌, ◌++◌, length, take, drop}
 use Rattle.voice_units.specs.declared.pieces.Piece.{Piece}
 use Rattle.voice_units.specs.Spots.{Spot, spots_in, spots_of, samples_in, stretches, IsNormal}
 
@@ -45,13 +45,13 @@ abbrev pub first_len : List Piece → ℕ
 first_len [] = 0
 first_len (p ∷ ps) = p.len
 
--- the pieces of a rope of n samples, and where each starts
+-- the pieces of a rope of n samples, and where each starts if there are two or more
 pub record IsPlaced (ps : List Piece) (starts : List ℕ) (n : ℕ) : Type 0 where
   pub normal : IsNormal ps
   pub ends : LieInFiles ps
   pub total : n ≡ samples_in ps
   pub fits : n < 2 ^ 32
-  pub placed : starts ≡ starts_from 0 ps
+  pub placed : 2 ≤ length ps → starts ≡ starts_from 0 ps
 
 -- the new pieces are kept, and name the places of the old ones and then these
 pub record AddsSpots (old new : List Piece) (ss : List Spot) : Type 0 where

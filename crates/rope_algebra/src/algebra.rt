@@ -15,7 +15,7 @@ use voice_units::{NoMemory, Piece};
 #[derive(Drop)]
 pub struct Pieces {
     pieces: Vec<Piece>,
-    /// How many samples stand before each piece.
+    /// How many samples stand before each piece; it is not filled where there are fewer than two.
     starts: Vec<u32>,
     length: u32,
 }
@@ -86,6 +86,18 @@ impl Pieces {
         for piece in list {
             length += piece.len;
             join(&mut pieces, *piece)?;
+        }
+        placed(pieces, length)
+    }
+
+    /// The rope of pieces that are in normal form. They are moved, not copied.
+    pub fn from_normal(pieces: Vec<Piece>) -> Result<Pieces, NoMemory>
+        requires { IsRope pieces.items }
+        ensures { IfOk result (λ rope. rope ≡ pieces.items) }
+    {
+        let mut length = 0;
+        for piece in &pieces {
+            length += piece.len;
         }
         placed(pieces, length)
     }

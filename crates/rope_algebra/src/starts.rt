@@ -13,11 +13,14 @@ pub struct Rest<'a> {
     pub skip: u32,
 }
 
-/// How many samples stand before each piece.
+/// How many samples stand before each piece. Where there are fewer than two pieces it is empty, and takes no memory.
 pub fn starts_of(pieces: &Vec<Piece>) -> Result<Vec<u32>, NoMemory>
     requires { samples_in pieces.now.items < 2 ^ 32 }
-    ensures { IfOk result (λ starts. starts.items ≡ starts_from 0 pieces.now.items) }
+    ensures { IfOk result (λ starts. 2 ≤ length pieces.now.items → starts.items ≡ starts_from 0 pieces.now.items) }
 {
+    if pieces.len() < 2 {
+        return Ok(Vec::new(*pieces.allocator()));
+    }
     let mut starts = Vec::with_capacity(*pieces.allocator(), pieces.len())?;
     let mut start = 0;
     for piece in pieces {
@@ -42,15 +45,15 @@ fn piece_at(pieces: &[Piece], starts: &[u32], at: u32) -> usize
 /// The pieces from the last one on that starts at a place or before it.
 pub fn rest_at<'a>(pieces: &'a [Piece], starts: &[u32], at: u32) -> Rest<'a>
     requires rope { IsRope pieces.now }
-    requires starts { starts.now ≡ starts_from 0 pieces.now }
+    requires starts { 2 ≤ length pieces.now → starts.now ≡ starts_from 0 pieces.now }
     requires at { at ≤ samples_in pieces.now }
     ensures rope { IsRope result.pieces.now }
     ensures spots { drop result.skip (spots_of result.pieces.now) ≡ drop at (spots_of pieces.now) }
     ensures skip { result.skip ≤ samples_in result.pieces.now }
     ensures near { at < samples_in pieces.now → result.skip < first_len result.pieces.now }
 {
-    if pieces.is_empty() {
-        return Rest { pieces, skip: 0 };
+    if pieces.len() < 2 {
+        return Rest { pieces, skip: at };
     }
     let k = piece_at(pieces, starts, at);
     Rest {

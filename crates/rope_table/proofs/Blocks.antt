@@ -7,6 +7,7 @@ use Rattle.std.proofs.lemmas.List.Folds.{list_any-append}
 use Rattle.std.proofs.lemmas.Bool.{cond_both, false≢true, eq-eqb}
 use Rattle.std.proofs.lemmas.Bool.Decides.{nat_tests}
 use Rattle.std.specs.Prelude.{slice_get}
+use Rattle.std.specs.List.{list_all}
 use Rattle.voice_units.specs.declared.Piece.{Piece}
 use Rattle.voice_units.specs.Spots.{Spot, spots_of, spots_in, spots_from, IsNormal}
 use Rattle.voice_units.specs.Blocks.{BlockPair, pair_at, pairs_at, has_pair, same_pair, distinct}
@@ -240,3 +241,41 @@ fewer_pass f g ps through =
     (λ q has. let h = and_parts (has_pair ps q) (f q) (sym (has_filter f ps q) ∙ sym (has_pair-distinct (filter f ps) q) ∙ has) in (h.0, ap not (through q h.1))) in
     let same = same_count (filter (λ q. not (not (g q))) ps) (filter g ps) (λ q. has_filter (λ r. not (not (g r))) ps q ∙ ap (λ b. has_pair ps q && b) (not_twice (g q)) ∙ sym (has_filter g ps q)) in
     omega (arith, all, same)
+
+-- ---- all blocks of a list pass
+
+and_left : (a b : Bool) → (a && b) ≡ true → a ≡ true
+and_left true b e = refl
+and_left false b e = e
+
+and_right : (a b : Bool) → (a && b) ≡ true → b ≡ true
+and_right true b e = e
+and_right false b e = absurd (false≢true e)
+
+pub all_pass : (test : BlockPair → Bool) (ps : List BlockPair) → ((q : BlockPair) → has_pair ps q ≡ true → test q ≡ true) → list_all test ps ≡ true
+all_pass test [] h = refl
+all_pass test (p ∷ ps) h =
+    ap (λ b. b && list_all test ps) (h p (or_left (same_pair p p) (has_pair ps p) (same_pair-refl p)))
+    ∙ all_pass test ps (λ q has. h q (or_right (same_pair q p) (has_pair ps q) has))
+
+pub each_passes : (test : BlockPair → Bool) (ps : List BlockPair) (q : BlockPair) → list_all test ps ≡ true → has_pair ps q ≡ true → test q ≡ true
+each_passes test [] q all has = absurd (false≢true has)
+each_passes test (p ∷ ps) q all has = split (same_pair q p)
+    (λ e. ap test (same_pair-true q p e) ∙ and_left (test p) (list_all test ps) all)
+    (λ e. each_passes test ps q (and_right (test p) (list_all test ps) all) (sym (ap (λ b. b || has_pair ps q) e) ∙ has))
+
+pub one_fails : (test : BlockPair → Bool) (ps : List BlockPair) (q : BlockPair) → has_pair ps q ≡ true → test q ≡ false → list_all test ps ≡ false
+one_fails test ps q has e = split (list_all test ps) (λ t. absurd (false≢true (sym e ∙ each_passes test ps q t has))) (λ f. f)
+
+-- where there is but one block, it decides
+pub only_one : (test : BlockPair → Bool) (ps : List BlockPair) (p : BlockPair) → ((q : BlockPair) → has_pair ps q ≡ same_pair p q) → test p ≡ list_all test ps
+only_one test ps p only = split (test p)
+    (λ t. t ∙ sym (all_pass test ps (λ q has. sym (ap test (same_pair-true p q (sym (only q) ∙ has))) ∙ t)))
+    (λ f. f ∙ sym (one_fails test ps p (only p ∙ same_pair-refl p) f))
+
+some_if : (n : ℕ) → nat_lt 0 n ≡ true → 1 ≤ n
+some_if n e = grind (arith, nat_tests)
+
+-- each block that all pass has a use
+pub each_used : (uses : BlockPair → ℕ) (ps : List BlockPair) → list_all (λ q. nat_lt 0 (uses q)) ps ≡ true → (q : BlockPair) → has_pair ps q ≡ true → 1 ≤ uses q
+each_used uses ps all q has = some_if (uses q) (each_passes (λ q. nat_lt 0 (uses q)) ps q all has)

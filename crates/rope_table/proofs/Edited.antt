@@ -4,12 +4,16 @@ use Rattle.std.proofs.lemmas.Bool.{cond_both, false≢true, ltb-true, ltb-false,
 use Rattle.std.proofs.lemmas.Option.{slice_get_within}
 use Rattle.std.proofs.lemmas.List.Edits.{length-remove}
 use Rattle.std.specs.List.{insert, remove}
-use Rattle.std.specs.Prelude.{slice_get, IsSome, OnSome, IsOk, Result, Ok, Err, OnOk}
+use Rattle.std.specs.Prelude.{slice_get, slice_set, option_map, IsSome, OnSome, IsOk, Result, Ok, Err, OnOk}
+use Rattle.std.specs.Borrow.{MutBor}
+use Rattle.std.specs.Fn.{Once, FnOnceReturnsAtMut}
+use Rattle.counted_row.specs.Row.{IsChanged}
 use Rattle.voice_units.specs.Blocks.{BlockPair}
 use Rattle.rope_table.specs.declared.ropes.Rope.{Rope}
 use Rattle.rope_table.specs.declared.dues.Due.{Due}
 use Rattle.rope_table.specs.Table.{is_sooner, is_lower, Every, IsInOrder, rope_of, with_rope, without_rope, with_due, due_of, index_of, uses_by, uses_in, pieces_in}
-use Rattle.rope_table.specs.Inside.{lies_below, place_of, IsAt}
+use Rattle.rope_table.specs.Inside.{Ropes, lies_below, place_of, IsAt, standing_of, standing_if, standing_at}
+use Rattle.rope_table.specs.declared.ropes.Standing.{Standing}
 use Rattle.rope_table.proofs.InOrder.{split, place_gone, every_put, every_imp, put_swap, length-put, Apart}
 use Rattle.rope_table.proofs.ById.{changed, below_down, map_none, without_none, none_behind, not_here, place_more, place_none, if_id, rope_at_place, lower_apart, sooner_apart, sooner_through}
 
@@ -72,6 +76,70 @@ map_at id g (r ∷ ropes) rope order found =
     ∙ ap (λ q. g q ∷ ropes) (one_of r rope (sym (here id r ropes same) ∙ found))
     ∙ sym (ap (λ i. insert (remove (r ∷ ropes) i) i (g rope)) (place_none id r ropes (omega (arith, same)))))
     (λ more. no_rope rope (rope_of ropes id) (sym (not_here id r ropes (λ e. omega (arith, e, more))) ∙ found) (none_behind id r ropes (omega (arith, more)) order.0))
+
+-- the first rope that is not below a number, changed where it stands
+pub map_there : (id : ℕ) (g : Rope → Rope) (ropes : List Rope) (rope : Rope) → IsInOrder is_lower ropes → slice_get ropes (place_of (lies_below id) ropes) ≡ Some rope → slice_set ropes (place_of (lies_below id) ropes) (changed id g rope) ≡ map (changed id g) ropes
+map_there id g [] rope order there = cc
+map_there id g (r ∷ ropes) rope order there =
+    split (nat_lt r.id id)
+    (λ e. let less = ltb-true r.id id e in
+    ap (λ i. slice_set (r ∷ ropes) i (changed id g rope)) (place_more id r ropes less)
+    ∙ ap (λ l. r ∷ l) (map_there id g ropes rope order.1 (sym (ap (slice_get (r ∷ ropes)) (place_more id r ropes less)) ∙ there))
+    ∙ sym (ap (λ b. cond b (g r) r ∷ map (changed id g) ropes) (ne_eqb r.id id (λ f. omega (arith, f, less)))))
+    (λ e. let least : id ≤ r.id = ltb-false r.id id e in
+    ap (λ i. slice_set (r ∷ ropes) i (changed id g rope)) (place_none id r ropes least)
+    ∙ ap (λ q. changed id g q ∷ ropes) (sym (one_of r rope (sym (ap (slice_get (r ∷ ropes)) (place_none id r ropes least)) ∙ there)))
+    ∙ ap (λ l. changed id g r ∷ l) (sym (map_none id g ropes (none_behind id r ropes least order.0))))
+
+-- none is changed where no rope stands at the place of the number
+pub map_beyond : (id : ℕ) (g : Rope → Rope) (ropes : List Rope) → IsInOrder is_lower ropes → slice_get ropes (place_of (lies_below id) ropes) ≡ None → ropes ≡ map (changed id g) ropes
+map_beyond id g ropes order none = sym (map_none id g ropes (beyond_all id (place_of (lies_below id) ropes) ropes order refl none))
+
+-- what the rope of a number is, told by the one at its place
+pub standing_there : (id : ℕ) (ropes : List Rope) (rope : Rope) → IsInOrder is_lower ropes → slice_get ropes (place_of (lies_below id) ropes) ≡ Some rope → standing_if id rope ≡ standing_at ropes id
+standing_there id ropes rope order there =
+    cond_both (rope.id == id) (Some rope) None (λ o. cond (rope.id == id) (Some (standing_of rope)) None ≡ option_map standing_of o)
+    (λ e. ap (λ b. cond b (Some (standing_of rope)) None) e) (λ e. ap (λ b. cond b (Some (standing_of rope)) None) e)
+    ∙ sym (ap (option_map standing_of) (rope_at_place id ropes order ∙ ap (if_id id) there))
+
+pub standing_beyond : (id : ℕ) (ropes : List Rope) → IsInOrder is_lower ropes → slice_get ropes (place_of (lies_below id) ropes) ≡ None → ◌≡◌ {A = Option Standing} None (standing_at ropes id)
+standing_beyond id ropes order none = sym (ap (option_map standing_of) (beyond_all id (place_of (lies_below id) ropes) ropes order refl none))
+
+-- the rope of a number, by what it is
+pub standing_found : (ropes : List Rope) (id : ℕ) (was : Standing) → Some was ≡ standing_at ropes id → (rope : Rope) × (rope_of ropes id ≡ Some rope) × (was ≡ standing_of rope)
+standing_found ropes id was e = by (rope_of ropes id) refl
+  where
+    by : (o : Option Rope) → rope_of ropes id ≡ o → (rope : Rope) × (rope_of ropes id ≡ Some rope) × (was ≡ standing_of rope)
+    by None f = cc (e, ap (option_map standing_of) f)
+    by (Some rope) f = (rope, f, cc (e, ap (option_map standing_of) f))
+
+-- equal ropes with as much room
+pub same_ropes : (old new : Ropes) → new.ropes ≡ old.ropes → new.room ≡ old.room → old ≡ new
+same_ropes old new is room = sym (ap (λ l. let x : Ropes = record { ropes = l; room = new.room } in x) is ∙ ap (λ n. let x : Ropes = record { ropes = old.ropes; room = n } in x) room)
+
+-- where there is no rope of a number none changes
+pub standing_none : (id : ℕ) (g : Rope → Rope) (ropes : List Rope) → ◌≡◌ {A = Option Standing} None (standing_at ropes id) → map (changed id g) ropes ≡ ropes
+standing_none id g ropes e = by (rope_of ropes id) refl
+  where
+    by : (o : Option Rope) → rope_of ropes id ≡ o → map (changed id g) ropes ≡ ropes
+    by None f = map_none id g ropes f
+    by (Some rope) f = cc (e, ap (option_map standing_of) f)
+
+-- a call at the rope that stands at the place of a number, which changes the rope of the number alone and tells what it was
+module _ {F : Type 0} (call : Once F (MutBor Rope × Unit {0}) (Option Standing × (MutBor Rope × Unit {0}))) (f : F) (id n : ℕ) (g : Rope → Rope) (ropes new : List Rope) (r : Option Standing) (order : IsInOrder is_lower ropes) (same : n ≡ id)
+    (acts : (x y : Rope) (told : Option Standing) → FnOnceReturnsAtMut call f x told y → (told ≡ standing_if id x) × (y ≡ changed id g x)) (done : IsChanged call f ropes new (place_of (lies_below n) ropes) r) where
+  there : slice_get ropes (place_of (lies_below id) ropes) ≡ Some done.before
+  there = ap (λ m. slice_get ropes (place_of (lies_below m) ropes)) (sym same) ∙ done.there
+
+  pub changed_there : new ≡ map (changed id g) ropes
+  changed_there =
+      done.others
+      ∙ ap (λ m. slice_set ropes (place_of (lies_below m) ropes) done.after) same
+      ∙ ap (slice_set ropes (place_of (lies_below id) ropes)) (acts done.before done.after r done.called).1
+      ∙ map_there id g ropes done.before order there
+
+  pub told_there : r ≡ standing_at ropes id
+  told_there = (acts done.before done.after r done.called).0 ∙ standing_there id ropes done.before order there
 
 abbrev kept_front : ℕ → Rope → List Rope → Bool → List Rope
 kept_front id r ropes b = cond (not b) (r ∷ without_rope id ropes) (without_rope id ropes)

@@ -48,7 +48,7 @@ filed_new k m back n count r same absent room succeeds old puts =
     let none : file_once (file_of m.entries k) ≡ 0 = ap (λ (o : Option FileCount). file_once (unwrap_or o no_file)) (sym absent) in
     omega (arith, all, none)
 
-once_le : (count : FileCount) → file_once count ≤ 1
+pub once_le : (count : FileCount) → file_once count ≤ 1
 once_le count = cond_both (nat_lt 0 count.live) 1 0 (λ n. n ≤ 1) (λ e. omega arith) (λ e. omega arith)
 
 pub filed_most : (es : List (ℕ × FileCount)) → files_live es ≤ length es

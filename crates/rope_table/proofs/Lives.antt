@@ -1,6 +1,6 @@
 -- How many entries are of blocks that live ropes have.
-use Rattle.std.proofs.Common.{◌≡◌, ℕ, suc, ◌+◌, ◌≤◌, List, [], ◌∷◌, length, Bool, true, false, not, ◌&&◌, ◌||◌, ◌==◌, cond, nat_lt, Option, Some, None, unwrap_or, refl, sym, ◌∙◌, ap, arith}
-use Rattle.std.proofs.lemmas.Bool.{cond_both, eqb-true, eq-eqb, lt-ltb}
+use Rattle.std.proofs.Common.{◌≡◌, ℕ, suc, ◌+◌, ◌≤◌, List, [], ◌∷◌, length, Bool, true, false, not, ◌&&◌, ◌||◌, ◌==◌, cond, nat_lt, Option, Some, None, option_map, unwrap_or, refl, sym, ◌∙◌, ap, arith}
+use Rattle.std.proofs.lemmas.Bool.{cond_both, eqb-true, eq-eqb, lt-ltb, false≢true}
 use Rattle.std.proofs.lemmas.List.Sums.{sum_by-cons}
 use Rattle.std.proofs.lemmas.Map.Entries.{lookup_head, lookup_tail}
 use Rattle.std.specs.List.{sum_by, IsDistinct, AllByRecursion}
@@ -15,7 +15,7 @@ use Rattle.rope_table.specs.declared.files.FileCount.{FileCount}
 use mir.Val.{bool_byte}
 use Rattle.std.specs.HashMap.{HashMap}
 use Rattle.rope_table.specs.Files.{Filed, no_file, file_of, is_filed}
-use Rattle.rope_table.specs.Inside.{pair_named, found_in, entered_in, weight_found, is_live, live_once, live_in, in_file, live_in_file, once, IsTallied}
+use Rattle.rope_table.specs.Inside.{pair_named, found_in, entered_in, weight_found, is_live, live_once, live_in, in_file, live_in_file, once, IsTallied, used_again}
 use Rattle.rope_table.proofs.Sums.{sum_part}
 use Rattle.rope_table.proofs.InOrder.{split}
 use Rattle.rope_table.proofs.Blocks.{front_counts, or_left, or_right, same_pair-refl}
@@ -308,3 +308,13 @@ tallied_same m n files new live h is same = record {
   counted = λ f. ap (λ (c : FileCount). c.counted) (same f) ∙ h.counted f ∙ ap (sum_by (in_file f)) (sym is);
   lives = λ f. ap (λ (c : FileCount). c.live) (same f) ∙ h.lives f ∙ ap (sum_by (live_in_file f)) (sym is);
 }
+
+-- ---- a block in use
+
+pub found_used : (used : Bool) (o r : Option Count) → r ≡ cond used o None → is_some r ≡ true → r ≡ o
+found_used true o r e some = e
+found_used false o r e some = absurd (false≢true (sym (ap is_some e) ∙ some))
+
+pub weight_again : (weigh : BlockName × Count → ℕ) (name : BlockName) (live : Bool) (o : Option Count) → is_some o ≡ true → weight_found weigh name (option_map (used_again live) o) ≡ weigh (name, used_again live (unwrap_or o no_count))
+weight_again weigh name live None some = absurd (false≢true some)
+weight_again weigh name live (Some count) some = refl

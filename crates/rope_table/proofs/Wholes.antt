@@ -9,11 +9,12 @@ use Rattle.voice_units.specs.Blocks.{BlockPair, pairs_at, has_pair, same_pair, d
 use Rattle.rope_table.specs.declared.ropes.Rope.{Rope}
 use Rattle.rope_table.specs.declared.dues.Due.{Due}
 use Rattle.rope_table.specs.Table.{Counts, is_sooner, is_lower, Every, IsInOrder, rope_of, with_rope, without_rope, with_due, due_of, due_at, index_of, uses_by, uses_in, uses_counted, live_counted, unused, pieces_in, pairs_in}
-use Rattle.rope_table.specs.Inside.{Ropes, Dues, Uses, IsWhole, seen}
+use Rattle.rope_table.specs.declared.ropes.Standing.{Standing}
+use Rattle.rope_table.specs.Inside.{Ropes, Dues, Uses, IsWhole, seen, standing_at}
 use Rattle.rope_table.proofs.InOrder.{split, every_put, in_order-put, Apart}
 use Rattle.rope_table.proofs.ById.{changed, gone, lower_through}
 use Rattle.rope_table.proofs.Blocks.{or_left, or_right, same_pair-refl}
-use Rattle.rope_table.proofs.Edited.{as_put, put_again, id_of, uses_with, index_with, index_of-with, length-with, apart_from, dues_apart, every_without, in_order-without}
+use Rattle.rope_table.proofs.Edited.{as_put, put_again, id_of, uses_with, index_with, index_of-with, length-with, apart_from, dues_apart, every_without, in_order-without, standing_found}
 
 -- the parts tell of these ropes
 pub make_whole : (r : Ropes) (d : Dues) (u : Uses) (block : ℕ) (ropes : List Rope) → u.block ≡ block → r.ropes ≡ ropes → IsInOrder is_lower ropes → Every (λ rope. rope.last ≤ 3) ropes
@@ -174,6 +175,13 @@ left_due id ropes rope dues left due order found is named free leaves =
     let same : due ≡ due_of rope = named ∙ ap (λ n. due_at n rope.idle rope.wait) (sym (id_of id ropes rope found)) in
     leaves (index_of rest) (subst (λ (d : Due). Apart is_sooner d (index_of rest)) (sym same) (dues_apart (due_of rope) rest (not_among id ropes rope order found)))
     (is ∙ index_of_due id ropes rope order found free ∙ sym (ap (λ d. with_due d (index_of rest)) same))
+
+-- the same, by what the rope was
+pub left_was : (id : ℕ) (ropes : List Rope) (was : Standing) (dues left : List Due) (due : Due) → IsInOrder is_lower ropes → Some was ≡ standing_at ropes id → dues ≡ index_of ropes → due ≡ due_at id was.idle was.wait → was.kept ≡ false
+    → ((rest : List Due) → Apart is_sooner due rest → dues ≡ with_due due rest → left ≡ rest) → left ≡ index_of (without_rope id ropes)
+left_was id ropes was dues left due order live is named free leaves =
+    let f = standing_found ropes id was live in
+    left_due id ropes f.0 dues left due order f.1 is (named ∙ ap (λ (w : Standing). due_at id w.idle w.wait) f.2) (sym (ap (λ (w : Standing). w.kept) f.2) ∙ free) leaves
 
 pub same_bool : (a b : Bool) → beq a b ≡ true → a ≡ b
 same_bool true true e = refl

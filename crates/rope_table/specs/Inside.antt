@@ -1,27 +1,31 @@
 -- What the table holds.
 --     Ropes, Dues, Uses      the ropes, the order in which they are due, and the uses of blocks, each with its room
 --     place_of test xs, IsAt ropes id i      how many elements in front pass a test;  the rope of a number stands at this place
+--     standing_of rope, standing_if id rope, standing_at ropes id      what a rope is besides its samples;  that of the rope, or of the rope among ropes, that has a number
 --     AreLive ropes pieces      the ropes are in rising number, not too many, and have so many pieces
 --     Tallied      the counts of blocks
 --     found_in, entered_in entries pair; count_in, is_entered      a block's entry, if it has one;  a block's count, 0 and not marked where there is none, and whether it is entered
 --     once, is_live, live_in entries      1 where it holds;  whether a live rope has the block of a count;  how many entries are of such blocks
 --     touched live pass count; used_again, used_less live count      what a pass makes of the count of a block;  the count with one use more, or less
+--     count_changed entered was is count      the count of a file of which a block gets a count
 --     missing tally pairs      how many blocks have no count yet
 --     in_file, live_in_file f e, weight_found weigh name count      1 for an entry of a file, or of one that is live;  what a found entry weighs
 --     IsTallied counts files live      the numbers of such entries are kept
 --     AreSettled tally      no block is marked
 --     seen, IsWhole      the table of these parts;  the parts tell of the same ropes
-use Rattle.std.specs.Prelude.{◌≡◌, ℕ, suc, ◌+◌, ◌-◌, ◌^◌, ◌≤◌, ◌<◌, min, nat_lt, nat_le, Bool, true, false, not, ◌&&◌, ◌||◌, ◌==◌, cond, List, [], ◌∷◌, length, filter, slice_get, Option, option_map, unwrap_or, is_some, IsSome}
+use Rattle.std.specs.Prelude.{◌≡◌, ℕ, suc, ◌+◌, ◌-◌, ◌^◌, ◌≤◌, ◌<◌, min, nat_lt, nat_le, Bool, true, false, not, ◌&&◌, ◌||◌, ◌==◌, cond, List, [], ◌∷◌, length, filter, slice_get, Option, Some, None, option_map, unwrap_or, is_some, IsSome}
 use Rattle.std.specs.HashMap.{HashMap}
 use Rattle.std.specs.List.{sum_by}
 use Rattle.std.specs.Map.{lookup}
 use Rattle.voice_units.specs.Blocks.{BlockPair, distinct}
 use Rattle.rope_table.specs.declared.ropes.Rope.{Rope}
+use Rattle.rope_table.specs.declared.ropes.Standing.{Standing}
 use Rattle.rope_table.specs.declared.dues.Due.{Due}
 use Rattle.rope_table.specs.declared.counts.BlockName.{BlockName}
 use Rattle.rope_table.specs.declared.counts.Count.{Count}
 use Rattle.rope_table.specs.declared.counts.Pass.{Pass}
 use Rattle.rope_table.specs.declared.counts.Pass.TheVariants.{Raise, Lower, Settle}
+use Rattle.rope_table.specs.declared.files.FileCount.{FileCount}
 use Rattle.rope_table.specs.Files.{Filed, file_of}
 use Rattle.rope_table.specs.Table.{Table, IsTable, Every, IsInOrder, is_lower, rope_of, piece_count, index_of, name_eq, name_of, count_of, live_counted, uses_in, pieces_in}
 
@@ -41,6 +45,18 @@ is_due_before at id due = nat_lt due.at at || ((due.at == at) && nat_lt due.id i
 -- whether a rope's number is at most this one
 abbrev pub is_within : ℕ → Rope → Bool
 is_within id rope = nat_le rope.id id
+
+-- what a rope is besides its samples
+abbrev pub standing_of : Rope → Standing
+standing_of rope = record { idle = rope.idle; wait = rope.wait; kept = rope.kept }
+
+-- the same, if the rope has this number
+abbrev pub standing_if : ℕ → Rope → Option Standing
+standing_if id rope = cond (rope.id == id) (Some (standing_of rope)) None
+
+-- and of the rope among ropes that has it
+abbrev pub standing_at : List Rope → ℕ → Option Standing
+standing_at ropes id = option_map standing_of (rope_of ropes id)
 
 -- the rope of a number stands at this place
 pub record IsAt (ropes : List Rope) (id i : ℕ) : Type 0 where
@@ -137,6 +153,10 @@ used_again live count = record { uses = count.uses + 1; live = count.live + once
 -- the count of a block with one use less, not marked
 abbrev pub used_less : Bool → Count → Count
 used_less live count = record { uses = count.uses - 1; live = count.live - once live; marked = false }
+
+-- the count of a file of which a block gets a count, which the block had or not, and which a live rope had or has now
+abbrev pub count_changed : Bool → Bool → Bool → FileCount → FileCount
+count_changed entered was is count = record { counted = count.counted + once entered; live = count.live + once is - once was }
 
 -- how many blocks have no count yet
 abbrev pub missing : Tallied → List BlockPair → ℕ

@@ -1,8 +1,8 @@
 //! How many live ropes and held passages use each block, and how many blocks live ropes use.
 
-ghost use Rattle.std.specs.Prelude.{◌≡◌, ℕ, ◌+◌, ◌^◌, ◌<◌, ◌≤◌, true, false, List, length, IfOk, OnOk, IfSome, if◌then◌else◌, ◌||◌, cond, nat_lt, unwrap_or};
+ghost use Rattle.std.specs.Prelude.{◌≡◌, ℕ, ◌+◌, ◌^◌, ◌<◌, ◌≤◌, true, false, List, length, IfOk, OnOk, IfSome, if◌then◌else◌, ◌||◌, ◌&&◌, cond, nat_lt, None, is_some, option_map, unwrap_or};
 ghost use Rattle.std.specs.HashMap.{spare};
-ghost use Rattle.std.specs.List.{sum_by};
+ghost use Rattle.std.specs.List.{sum_by, list_all};
 ghost use Rattle.voice_units.specs.Spots.{spots_of};
 ghost use Rattle.voice_units.specs.Blocks.{BlockPair, pairs_at, has_pair, same_pair, distinct};
 ghost use Rattle.rope_table.specs.Table.{uses_by, pair_of, unused, uses_counted, live_counted, files_of, no_count, count_of};
@@ -96,6 +96,71 @@ fn put(counts: &mut HashMap<BlockName, Count>, name: BlockName, count: Count) ->
     Some(old)
 }
 
+// The count of a block without a use.
+fn no_uses() -> Count
+    ensures { result ≡ no_count }
+{
+    Count {
+        uses: 0,
+        live: 0,
+        marked: false,
+    }
+}
+
+// A count with one use more, marked or not.
+fn raised(count: Count, live: bool, marked: bool) -> Count
+    requires fits { count.uses + 1 < 2 ^ 32 }
+    requires live_fits { count.live + 1 < 2 ^ 32 }
+    ensures { result ≡ record (used_again live count) { marked = marked } }
+{
+    Count {
+        uses: count.uses + 1,
+        live: count.live + u32::from(live),
+        marked,
+    }
+}
+
+// One more use of a block, which is not marked. The count that it had.
+fn put_raised(counts: &mut HashMap<BlockName, Count>, name: BlockName, live: bool) -> Option<Count>
+    requires room { entered_in counts.old.entries (pair_named name) ≡ false → 0 < spare counts.old }
+    requires fits { (count_of counts.old.entries (pair_named name)).uses + 1 < 2 ^ 32 }
+    requires live_fits { (count_of counts.old.entries (pair_named name)).live + 1 < 2 ^ 32 }
+    ensures counts { (pair : BlockPair) → count_of counts.new.entries pair ≡ cond (same_pair (pair_named name) pair) (used_again live (count_of counts.old.entries pair)) (count_of counts.old.entries pair) }
+    ensures entered { (pair : BlockPair) → entered_in counts.new.entries pair ≡ (same_pair (pair_named name) pair || entered_in counts.old.entries pair) }
+    ensures spare { spare counts.old ≤ spare counts.new + (if entered_in counts.old.entries (pair_named name) then 0 else 1) }
+    ensures result { result ≡ found_in counts.old.entries (pair_named name) }
+    ensures sums { (weigh : BlockName × Count → ℕ) → sum_by weigh counts.new.entries + weight_found weigh name result ≡ sum_by weigh counts.old.entries + weigh (name, used_again live (unwrap_or result no_count)) }
+{
+    let Some(place) = counts.get_mut(&name) else {
+        let first = raised(no_uses(), live, false);
+        let _entered = counts.insert(name, first);
+        return None;
+    };
+    let old = *place;
+    *place = raised(old, live, false);
+    Some(old)
+}
+
+// One more use of a block that has one, and is not marked; without one nothing changes. The count that it had, if it was used.
+fn put_used(counts: &mut HashMap<BlockName, Count>, name: &BlockName, live: bool) -> Option<Count>
+    requires fits { (count_of counts.old.entries (pair_named name.now)).uses + 1 < 2 ^ 32 }
+    requires live_fits { (count_of counts.old.entries (pair_named name.now)).live + 1 < 2 ^ 32 }
+    ensures result { result ≡ cond (nat_lt 0 (count_of counts.old.entries (pair_named name.now)).uses) (found_in counts.old.entries (pair_named name.now)) None }
+    ensures counts { (pair : BlockPair) → count_of counts.new.entries pair ≡ cond (is_some result && same_pair (pair_named name.now) pair) (used_again live (count_of counts.old.entries pair)) (count_of counts.old.entries pair) }
+    ensures spare { spare counts.old ≤ spare counts.new }
+    ensures sums { (weigh : BlockName × Count → ℕ) → sum_by weigh counts.new.entries + weight_found weigh name.now result ≡ sum_by weigh counts.old.entries + weight_found weigh name.now (option_map (used_again live) result) }
+{
+    let Some(place) = counts.get_mut(name) else {
+        return None;
+    };
+    let old = *place;
+    if old.uses == 0 {
+        return None;
+    }
+    *place = raised(old, live, false);
+    Some(old)
+}
+
 // A block has no count any longer. The count that it had.
 fn take(counts: &mut HashMap<BlockName, Count>, name: &BlockName) -> Option<Count>
     ensures counts { (pair : BlockPair) → count_of counts.new.entries pair ≡ cond (same_pair (pair_named name.now) pair) no_count (count_of counts.old.entries pair) }
@@ -121,6 +186,13 @@ fn has_live(count: &Option<Count>) -> bool
         Some(count) => count.live > 0,
         None => false,
     }
+}
+
+// The same of the block with one use more.
+fn has_live_again(count: &Option<Count>, live: bool) -> bool
+    ensures { result ≡ is_live (used_again live (unwrap_or count.now no_count)) }
+{
+    has_live(count) || live
 }
 
 impl Tally {
@@ -154,6 +226,9 @@ impl Tally {
         ensures room { OnOk result (n ≤ self.new.spare) }
         ensures kept { self.old.spare ≤ self.new.spare }
     {
+        if n == 0 {
+            return Ok(());
+        }
         self.counts.reserve(n as usize)?;
         self.files.reserve(n)
     }
@@ -163,6 +238,16 @@ impl Tally {
         ensures { result ≡ found_in self.now.counts (pair_named name.now) }
     {
         self.counts.get(name).copied()
+    }
+
+    // How many use a block.
+    fn uses(&self, name: &BlockName) -> u32
+        ensures { result ≡ (count_in self.now (pair_named name.now)).uses }
+    {
+        let Some(count) = self.get(name) else {
+            return 0;
+        };
+        count.uses
     }
 
     // A block has this count from now on.
@@ -179,6 +264,44 @@ impl Tally {
         let is = count.live > 0;
         self.files.change(file, old.is_none(), was, is);
         self.live = self.live + u64::from(is) - u64::from(was);
+    }
+
+    // One more use of a block, which is not marked.
+    fn put_raised(&mut self, name: BlockName, live: bool)
+        requires room { is_entered self.old (pair_named name) ≡ false → 0 < self.old.spare }
+        requires fits { (count_in self.old (pair_named name)).uses + 1 < 2 ^ 32 }
+        requires live_fits { (count_in self.old (pair_named name)).live + 1 < 2 ^ 32 }
+        ensures counts { (pair : BlockPair) → count_in self.new pair ≡ cond (same_pair (pair_named name) pair) (used_again live (count_in self.old pair)) (count_in self.old pair) }
+        ensures entered { (pair : BlockPair) → is_entered self.new pair ≡ (same_pair (pair_named name) pair || is_entered self.old pair) }
+        ensures spare { self.old.spare ≤ self.new.spare + (if is_entered self.old (pair_named name) then 0 else 1) }
+    {
+        let _most = self.counts.len();
+        let file = name.file;
+        let old = put_raised(&mut self.counts, name, live);
+        let was = has_live(&old);
+        let is = has_live_again(&old, live);
+        self.files.change(file, old.is_none(), was, is);
+        self.live = self.live + u64::from(is) - u64::from(was);
+    }
+
+    // One more use of a block that has one, and is not marked. False where it has none, and then nothing changes.
+    fn put_used(&mut self, name: &BlockName, live: bool) -> bool
+        requires fits { (count_in self.old (pair_named name.now)).uses + 1 < 2 ^ 32 }
+        requires live_fits { (count_in self.old (pair_named name.now)).live + 1 < 2 ^ 32 }
+        ensures value { result ≡ nat_lt 0 (count_in self.old (pair_named name.now)).uses }
+        ensures counts { (pair : BlockPair) → count_in self.new pair ≡ cond (result && same_pair (pair_named name.now) pair) (used_again live (count_in self.old pair)) (count_in self.old pair) }
+        ensures spare { self.old.spare ≤ self.new.spare }
+    {
+        let _most = self.counts.len();
+        let old = put_used(&mut self.counts, name, live);
+        if old.is_none() {
+            return false;
+        }
+        let was = has_live(&old);
+        let is = has_live_again(&old, live);
+        self.files.change(name.file, false, was, is);
+        self.live = self.live + u64::from(is) - u64::from(was);
+        true
     }
 
     // A block has no count any longer.
@@ -222,23 +345,13 @@ fn raise(tally: &mut Tally, name: BlockName, live: bool)
     ensures spare { tally.old.spare ≤ tally.new.spare + (if is_entered tally.old (pair_named name) then 0 else 1) }
 {
     let Some(count) = tally.get(&name) else {
-        let first = Count {
-            uses: 1,
-            live: u32::from(live),
-            marked: true,
-        };
-        tally.put(name, first);
+        tally.put(name, raised(no_uses(), live, true));
         return;
     };
     if count.marked {
         return;
     }
-    let more = Count {
-        uses: count.uses + 1,
-        live: count.live + u32::from(live),
-        marked: true,
-    };
-    tally.put(name, more);
+    tally.put(name, raised(count, live, true));
 }
 
 // One use of a block less, unless it is marked.
@@ -342,6 +455,28 @@ fn only_block(pieces: &Pieces, block: u32) -> Option<BlockName>
     Some(BlockName { file, index })
 }
 
+// Whether each block of some pieces has a use.
+fn are_used(tally: &Tally, block: u32, pieces: &Pieces) -> bool
+    requires { 0 < block }
+    ensures { result ≡ list_all (λ pair. nat_lt 0 (count_in tally.now pair).uses) (pairs_at block (spots_of pieces.now)) }
+{
+    let _length = pieces.length();
+    for k in 0..pieces.count() {
+        let Some(piece) = pieces.piece(k) else {
+            return false;
+        };
+        let file = piece.file;
+        let first = piece.from / block;
+        let last = (piece.from + piece.len - 1) / block;
+        for index in first..last + 1 {
+            if tally.uses(&BlockName { file, index }) == 0 {
+                return false;
+            }
+        }
+    }
+    true
+}
+
 // One more use of a block, which is not marked.
 fn raise_alone(tally: &mut Tally, name: BlockName, live: bool)
     requires room { is_entered tally.old (pair_named name) ≡ false → 0 < tally.old.spare }
@@ -350,17 +485,7 @@ fn raise_alone(tally: &mut Tally, name: BlockName, live: bool)
     ensures counts { (pair : BlockPair) → count_in tally.new pair ≡ cond (same_pair (pair_named name) pair) (used_again live (count_in tally.old pair)) (count_in tally.old pair) }
     ensures spare { tally.old.spare ≤ tally.new.spare + (if is_entered tally.old (pair_named name) then 0 else 1) }
 {
-    let count = tally.get(&name);
-    let uses = count.map_or(0, |count| count.uses);
-    let lives = count.map_or(0, |count| count.live);
-    tally.put(
-        name,
-        Count {
-            uses: uses + 1,
-            live: lives + u32::from(live),
-            marked: false,
-        },
-    );
+    tally.put_raised(name, live);
 }
 
 // One use less of a block, which is not marked. Without a use it goes.
@@ -426,10 +551,7 @@ impl UseCounts {
     pub(crate) fn uses(&self, file: RopeId, index: u32) -> u32
         ensures { result ≡ uses_counted self.now.counts (pair_of file index) }
     {
-        let Some(count) = self.tally.get(&BlockName { file, index }) else {
-            return 0;
-        };
-        count.uses
+        self.tally.uses(&BlockName { file, index })
     }
 
     /// How many blocks live ropes have.
@@ -473,6 +595,27 @@ impl UseCounts {
         }
         touch_all(&mut self.tally, self.block, pieces, live, Pass::Raise);
         touch_all(&mut self.tally, self.block, pieces, live, Pass::Settle);
+    }
+
+    /// One more use of each block of these pieces, which are a live rope's or not, where each has one; false exactly where one has none, and then nothing changes. It takes no memory.
+    pub(crate) fn raise_used(&mut self, pieces: &Pieces, live: bool) -> bool
+        requires fits { (pair : BlockPair) → has_pair (pairs_at self.old.block (spots_of pieces.now)) pair ≡ true → uses_counted self.old.counts pair + 1 < 2 ^ 32 }
+        requires live_fits { (pair : BlockPair) → live_counted self.old.counts pair ≤ uses_counted self.old.counts pair }
+        ensures value { result ≡ list_all (λ pair. nat_lt 0 (uses_counted self.old.counts pair)) (pairs_at self.old.block (spots_of pieces.now)) }
+        ensures block { self.new.block ≡ self.old.block }
+        ensures uses { (pair : BlockPair) → uses_counted self.new.counts pair ≡ uses_counted self.old.counts pair + cond result (uses_by self.old.block pieces.now pair) 0 }
+        ensures live { (pair : BlockPair) → live_counted self.new.counts pair ≡ live_counted self.old.counts pair + cond (result && live) (uses_by self.old.block pieces.now pair) 0 }
+        ensures spare { self.old.spare ≤ self.new.spare }
+    {
+        if let Some(name) = only_block(pieces, self.block) {
+            return self.tally.put_used(&name, live);
+        }
+        if !are_used(&self.tally, self.block, pieces) {
+            return false;
+        }
+        touch_all(&mut self.tally, self.block, pieces, live, Pass::Raise);
+        touch_all(&mut self.tally, self.block, pieces, live, Pass::Settle);
+        true
     }
 
     /// One use less of each block of these pieces, which are a live rope's or not. A block without a use takes no place. It takes no memory.

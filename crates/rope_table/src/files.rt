@@ -5,7 +5,7 @@ ghost use Rattle.std.specs.HashMap.{spare};
 ghost use Rattle.std.specs.List.{sum_by};
 ghost use Rattle.voice_units.specs.Blocks.{BlockPair};
 ghost use Rattle.rope_table.specs.Table.{has_file, files_of};
-ghost use Rattle.rope_table.specs.Inside.{once};
+ghost use Rattle.rope_table.specs.Inside.{once, count_changed};
 ghost use Rattle.rope_table.specs.Files.{no_file, file_of, is_filed, file_once, files_live};
 
 use std::alloc::Global;
@@ -38,6 +38,16 @@ impl Model for FileCounts {
     ghost invariant = { λ f. IsFiled f.files f.live };
 }
 
+// The count of a file of which no block has one.
+fn no_blocks() -> FileCount
+    ensures { result ≡ no_file }
+{
+    FileCount {
+        counted: 0,
+        live: 0,
+    }
+}
+
 // A file has this count from now on.
 fn put(files: &mut HashMap<RopeId, FileCount>, file: RopeId, count: FileCount)
     requires { is_filed files.old.entries file ≡ false → 0 < spare files.old }
@@ -50,6 +60,57 @@ fn put(files: &mut HashMap<RopeId, FileCount>, file: RopeId, count: FileCount)
         return;
     };
     *place = count;
+}
+
+// The count of a file of which a block gets a count.
+fn changed(before: FileCount, entered: bool, was: bool, is: bool) -> FileCount
+    requires fits { before.counted < 2 ^ 63 }
+    requires live_fits { before.live < 2 ^ 63 }
+    requires there { once was ≤ before.live }
+    ensures { result ≡ count_changed entered was is before }
+{
+    FileCount {
+        counted: before.counted + u64::from(entered),
+        live: before.live + u64::from(is) - u64::from(was),
+    }
+}
+
+// A block of a file gets a count. The count that the file had.
+fn change(
+    files: &mut HashMap<RopeId, FileCount>,
+    file: RopeId,
+    entered: bool,
+    was: bool,
+    is: bool,
+) -> FileCount
+    requires room { is_filed files.old.entries file ≡ false → 0 < spare files.old }
+    requires fits { (file_of files.old.entries file).counted < 2 ^ 63 }
+    requires live_fits { (file_of files.old.entries file).live < 2 ^ 63 }
+    requires there { once was ≤ (file_of files.old.entries file).live }
+    ensures value { result ≡ file_of files.old.entries file }
+    ensures counts { (f : ℕ) → file_of files.new.entries f ≡ cond (file == f) (count_changed entered was is result) (file_of files.old.entries f) }
+    ensures spare { spare files.old ≤ spare files.new + (if is_filed files.old.entries file then 0 else 1) }
+    ensures live { files_live files.new.entries + file_once result ≡ files_live files.old.entries + file_once (count_changed entered was is result) }
+{
+    let Some(place) = files.get_mut(&file) else {
+        let none = no_blocks();
+        let first = changed(none, entered, was, is);
+        let _entered = files.insert(file, first);
+        return none;
+    };
+    let before = *place;
+    *place = changed(before, entered, was, is);
+    before
+}
+
+// How many files live ropes have, as the count of one of them changes.
+fn recounted(live: u64, before: FileCount, after: FileCount) -> u64
+    requires fits { live + file_once after < 2 ^ 64 }
+    requires there { file_once before ≤ live + file_once after }
+    ensures { result + file_once before ≡ live + file_once after }
+{
+    let more = live + u64::from(after.live > 0);
+    more - u64::from(before.live > 0)
 }
 
 // A file has no count any longer.
@@ -98,10 +159,7 @@ impl FileCounts {
         ensures { result ≡ file_of self.now.files file }
     {
         let Some(count) = self.files.get(&file) else {
-            return FileCount {
-                counted: 0,
-                live: 0,
-            };
+            return no_blocks();
         };
         *count
     }
@@ -115,12 +173,7 @@ impl FileCounts {
         let _most = self.files.len();
         let before = self.get(file);
         put(&mut self.files, file, count);
-        if count.live > 0 {
-            self.live += 1;
-        }
-        if before.live > 0 {
-            self.live -= 1;
-        }
+        self.live = recounted(self.live, before, count);
     }
 
     // A file has no count any longer.
@@ -148,12 +201,10 @@ impl FileCounts {
         if !entered && was == is {
             return;
         }
-        let before = self.get(file);
-        let after = FileCount {
-            counted: before.counted + u64::from(entered),
-            live: before.live + u64::from(is) - u64::from(was),
-        };
-        self.put(file, after);
+        let _most = self.files.len();
+        let before = change(&mut self.files, file, entered, was, is);
+        let after = changed(before, entered, was, is);
+        self.live = recounted(self.live, before, after);
     }
 
     /// A block of a file has no count any longer, and a live rope had it or not.

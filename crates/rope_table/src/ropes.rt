@@ -1,8 +1,9 @@
 //! The live ropes in rising number.
 
-ghost use Rattle.std.specs.Prelude.{◌≡◌, ◌+◌, ◌<◌, ◌≤◌, None, IfOk, OnOk, OnSome, length, option_copied, slice_get, insert, remove, map, []};
-ghost use Rattle.rope_table.specs.Table.{rope_of, number_above, with_rope, without_rope, idled, held_back, is_lower, IsInOrder, piece_count};
-ghost use Rattle.rope_table.specs.Inside.{place_of, lies_below, is_within};
+ghost use Rattle.std.specs.Prelude.{◌≡◌, ◌+◌, ◌<◌, ◌≤◌, None, IfSome, IfNone, IfOk, OnOk, OnSome, length, option_copied, slice_get, insert, remove, map, []};
+ghost use Rattle.counted_row.specs.Row.{IsChanged};
+ghost use Rattle.rope_table.specs.Table.{rope_of, number_above, with_rope, without_rope, settled, held_back, is_lower, IsInOrder, piece_count};
+ghost use Rattle.rope_table.specs.Inside.{place_of, lies_below, is_within, standing_of, standing_if, standing_at};
 
 use crate::copies::{Duplicate, copied};
 use counted_row::CountedRow;
@@ -27,6 +28,14 @@ pub struct Rope {
     pub wait: u32,
     /// Whether a row names it.
     pub kept: bool,
+}
+
+/// What a rope is besides its samples: since when idle, how long it stays then, and whether a row names it.
+#[derive(Drop)]
+pub(crate) struct Standing {
+    pub(crate) idle: Moment,
+    pub(crate) wait: u32,
+    pub(crate) kept: bool,
 }
 
 /// The live ropes in rising number, and how many pieces they have in all. Contracts see the list, and how many fit without memory.
@@ -83,6 +92,64 @@ fn put(ropes: &mut CountedRow<Rope>, id: u64, rope: Rope)
     ensures spare { ropes.old.spare ≤ ropes.new.spare + 1 }
 {
     let _entered = ropes.insert_at_point(|other| other.id.number() < id, rope);
+}
+
+/// Changes the first rope whose number is not below this one where it stands.
+fn change<R, F: FnOnce(&mut Rope) -> R>(
+    ropes: &mut CountedRow<Rope>,
+    id: u64,
+    change: F,
+) -> Option<R>
+    requires order { IsInOrder is_lower ropes.old.items }
+    requires callable { F.IsAlwaysCallable change }
+    ensures some { IfSome result (λ r. IsChanged F.FnOnce change ropes.old.items ropes.new.items (place_of (lies_below id) ropes.old.items) r) }
+    ensures none { IfNone result (slice_get ropes.old.items (place_of (lies_below id) ropes.old.items) ≡ None) }
+    ensures same { IfNone result (ropes.new.items ≡ ropes.old.items) }
+    ensures spare { ropes.new.spare ≡ ropes.old.spare }
+{
+    ropes.change_at_point(|rope| rope.id.number() < id, change)
+}
+
+impl Rope {
+    // What it is now.
+    fn standing(&self) -> Standing
+        ensures { result ≡ standing_of self.now }
+    {
+        Standing {
+            idle: self.idle,
+            wait: self.wait,
+            kept: self.kept,
+        }
+    }
+
+    // Where it has this number, whether a row names it. Gives what it was.
+    fn keep(&mut self, id: RopeId, kept: bool) -> Option<Standing>
+        ensures was { result ≡ standing_if id self.old }
+        ensures rope { self.new ≡ held_back id kept self.old }
+    {
+        if self.id.number() != id.number() {
+            return None;
+        }
+        let was = self.standing();
+        self.kept = kept;
+        Some(was)
+    }
+
+    // Where it has this number, no row names it any more since a moment. Gives what it was.
+    fn settle(&mut self, id: RopeId, idle: Moment, last: u8, wait: u32) -> Option<Standing>
+        ensures was { result ≡ standing_if id self.old }
+        ensures rope { self.new ≡ settled id idle last wait self.old }
+    {
+        if self.id.number() != id.number() {
+            return None;
+        }
+        let was = self.standing();
+        self.idle = idle;
+        self.last = last;
+        self.wait = wait;
+        self.kept = false;
+        Some(was)
+    }
 }
 
 impl Duplicate for Rope {
@@ -211,35 +278,29 @@ impl LiveRopes {
         Some(rope)
     }
 
-    /// Since when the rope of a number is idle, the class of the last row that it lost, and how long it waits.
-    pub(crate) fn set_idle(&mut self, id: RopeId, idle: Moment, last: u8, wait: u32)
-        ensures ropes { self.new.ropes ≡ map (idled id idle last wait) self.old.ropes }
-        ensures room { self.old.room ≤ self.new.room }
+    /// No row names the rope of a number any more: since when, the class of the last row that it lost, and how long it waits. Gives what it was.
+    pub(crate) fn settle(
+        &mut self,
+        id: RopeId,
+        idle: Moment,
+        last: u8,
+        wait: u32,
+    ) -> Option<Standing>
+        ensures was { result ≡ standing_at self.old.ropes id }
+        ensures ropes { self.new.ropes ≡ map (settled id idle last wait) self.old.ropes }
+        ensures room { self.new.room ≡ self.old.room }
     {
-        let Some(_live) = self.find(id) else {
-            return;
-        };
-        let Some(mut rope) = take(&mut self.ropes, id.number()) else {
-            return;
-        };
-        rope.idle = idle;
-        rope.last = last;
-        rope.wait = wait;
-        put(&mut self.ropes, id.number(), rope);
+        change(&mut self.ropes, id.number(), |rope| {
+            rope.settle(id, idle, last, wait)
+        })?
     }
 
-    /// Whether a row keeps the rope of a number.
-    pub(crate) fn keep(&mut self, id: RopeId, kept: bool)
+    /// Whether a row names the rope of a number. Gives what it was.
+    pub(crate) fn keep(&mut self, id: RopeId, kept: bool) -> Option<Standing>
+        ensures was { result ≡ standing_at self.old.ropes id }
         ensures ropes { self.new.ropes ≡ map (held_back id kept) self.old.ropes }
-        ensures room { self.old.room ≤ self.new.room }
+        ensures room { self.new.room ≡ self.old.room }
     {
-        let Some(_live) = self.find(id) else {
-            return;
-        };
-        let Some(mut rope) = take(&mut self.ropes, id.number()) else {
-            return;
-        };
-        rope.kept = kept;
-        put(&mut self.ropes, id.number(), rope);
+        change(&mut self.ropes, id.number(), |rope| rope.keep(id, kept))?
     }
 }

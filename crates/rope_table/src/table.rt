@@ -1,10 +1,11 @@
 //! The table of ropes.
 
-ghost use Rattle.std.specs.Prelude.{◌≡◌, ℕ, ◌+◌, ◌-◌, ◌%◌, ◌^◌, ◌<◌, ◌≤◌, ◌++◌, ◌∷◌, [], List, Bool, true, Option, Some, None, IsOk, IfOk, OnOk, IfSome, map, length, slice_get, option_copied, option_map, option_to_list};
+ghost use Rattle.std.specs.Prelude.{◌≡◌, ℕ, ◌+◌, ◌-◌, ◌%◌, ◌^◌, ◌<◌, ◌≤◌, ◌++◌, ◌∷◌, [], List, Bool, true, Option, Some, None, IsOk, IfOk, OnOk, IfSome, map, length, cond, nat_lt, slice_get, option_copied, option_map, option_to_list};
+ghost use Rattle.std.specs.List.{list_all};
 ghost use Rattle.voice_units.specs.declared.Piece.{Piece};
 ghost use Rattle.voice_units.specs.Spots.{spots_of};
 ghost use Rattle.voice_units.specs.Blocks.{BlockPair, pairs_at, has_pair};
-ghost use Rattle.rope_table.specs.Table.{rope_of, number_above, with_rope, without_rope, idled, held_back, made_rope, pieces_at, idle_at, last_at, wait_at, kept_at, uses_by, uses_in, pieces_in, pair_of, uses_at, index_of, due_at, as_pair, piece_count, block_count, file_count, Counts, new_pairs, IsTable};
+ghost use Rattle.rope_table.specs.Table.{rope_of, number_above, with_rope, with_due, without_rope, settled, held_back, made_rope, pieces_at, idle_at, last_at, wait_at, kept_at, uses_by, uses_in, pieces_in, pair_of, uses_at, index_of, due_at, as_pair, piece_count, block_count, file_count, Counts, new_pairs, IsTable};
 
 use crate::counts::UseCounts;
 use crate::dues::{Due, DueOrder};
@@ -42,6 +43,36 @@ fn due_of(id: RopeId, idle: Moment, wait: u32) -> Due
         at: idle.number() + u64::from(wait),
         id,
     }
+}
+
+// A rope that no row keeps goes in among the ropes, and among those that are due.
+fn enter(
+    ropes: &mut LiveRopes,
+    dues: &mut DueOrder,
+    id: RopeId,
+    pieces: Pieces,
+    idle: Moment,
+    last: u8,
+    wait: u32,
+)
+    requires unknown { rope_of ropes.old.ropes id ≡ None }
+    requires room { length ropes.old.ropes < ropes.old.room }
+    requires due_room { length ropes.old.ropes < dues.old.room }
+    requires ordered { dues.old.dues ≡ index_of ropes.old.ropes }
+    ensures ropes { ropes.new.ropes ≡ with_rope (made_rope id pieces idle last wait) ropes.old.ropes }
+    ensures dues { dues.new.dues ≡ with_due (due_at id idle wait) dues.old.dues }
+    ensures room { ropes.old.room ≤ ropes.new.room }
+    ensures due_room { dues.old.room ≤ dues.new.room }
+{
+    dues.enter(due_of(id, idle, wait));
+    ropes.enter(Rope {
+        id,
+        pieces,
+        idle,
+        last,
+        wait,
+        kept: false,
+    });
 }
 
 impl RopeTable {
@@ -186,15 +217,51 @@ impl RopeTable {
         ensures spare_pairs { self.old.spare_pairs ≤ self.new.spare_pairs + new_pairs self.old pieces }
     {
         self.counts.raise(&pieces, true);
-        self.dues.enter(due_of(id, idle, wait));
-        self.ropes.enter(Rope {
+        enter(
+            &mut self.ropes,
+            &mut self.dues,
             id,
             pieces,
             idle,
             last,
             wait,
-            kept: false,
-        });
+        );
+    }
+
+    /// Puts in a rope that no row keeps, where each of its blocks is in use; false exactly where one is not, and then nothing changes. It takes no memory.
+    pub fn add_used(
+        &mut self,
+        id: RopeId,
+        pieces: Pieces,
+        idle: Moment,
+        last: u8,
+        wait: u32,
+    ) -> bool
+        requires unknown { rope_of self.old.ropes id ≡ None }
+        requires room { 1 ≤ self.old.spare_ropes }
+        requires class { last ≤ 3 }
+        requires fits { (pair : BlockPair) → has_pair (pairs_at self.old.block (spots_of pieces)) pair ≡ true → uses_at self.old pair + 1 < 2 ^ 32 }
+        ensures value { result ≡ list_all (λ pair. nat_lt 0 (uses_at self.old pair)) (pairs_at self.old.block (spots_of pieces)) }
+        ensures ropes { self.new.ropes ≡ cond result (with_rope (made_rope id pieces idle last wait) self.old.ropes) self.old.ropes }
+        ensures block { self.new.block ≡ self.old.block }
+        ensures uses { (pair : BlockPair) → uses_at self.new pair ≡ uses_at self.old pair + cond result (uses_by self.old.block pieces pair) 0 }
+        ensures counts { (held : List (List Piece)) → Counts self.old held → Counts self.new held }
+        ensures spare_ropes { self.old.spare_ropes ≤ self.new.spare_ropes + cond result 1 0 }
+        ensures spare_pairs { self.old.spare_pairs ≤ self.new.spare_pairs }
+    {
+        if !self.counts.raise_used(&pieces, true) {
+            return false;
+        }
+        enter(
+            &mut self.ropes,
+            &mut self.dues,
+            id,
+            pieces,
+            idle,
+            last,
+            wait,
+        );
+        true
     }
 
     /// Takes a rope out, and gives its pieces; `None` exactly where it is not live. It takes no memory, and moves a few hundred ropes at most.
@@ -226,27 +293,26 @@ impl RopeTable {
         Some(pieces)
     }
 
-    /// Since when the rope of a number is idle, the class of the last row that it lost, and how long it waits. Where it is not live nothing changes. It takes no memory.
-    pub fn set_idle(&mut self, id: RopeId, idle: Moment, last: u8, wait: u32)
+    /// No row names the rope of a number any more: since when, the class of the last row that it lost, and how long it waits. Where it is not live nothing changes. It takes no memory.
+    pub fn settle(&mut self, id: RopeId, idle: Moment, last: u8, wait: u32)
         requires { last ≤ 3 }
-        ensures ropes { self.new.ropes ≡ map (idled id idle last wait) self.old.ropes }
+        ensures ropes { self.new.ropes ≡ map (settled id idle last wait) self.old.ropes }
         ensures block { self.new.block ≡ self.old.block }
         ensures uses { (pair : BlockPair) → uses_at self.new pair ≡ uses_at self.old pair }
         ensures counts { (held : List (List Piece)) → Counts self.old held → Counts self.new held }
         ensures spare_ropes { self.old.spare_ropes ≤ self.new.spare_ropes }
         ensures spare_pairs { self.new.spare_pairs ≡ self.old.spare_pairs }
     {
-        let Some(rope) = self.ropes.find(id) else {
+        let Some(was) = self.ropes.settle(id, idle, last, wait) else {
             return;
         };
-        let kept = rope.kept;
-        let due = due_of(id, rope.idle, rope.wait);
-        self.ropes.set_idle(id, idle, last, wait);
-        if kept {
+        let due = due_of(id, idle, wait);
+        if was.kept {
+            self.dues.enter(due);
             return;
         }
-        self.dues.leave(due);
-        self.dues.enter(due_of(id, idle, wait));
+        self.dues.leave(due_of(id, was.idle, was.wait));
+        self.dues.enter(due);
     }
 
     /// Whether a row keeps the rope of a number: a rope that is kept is not due. Where it is not live nothing changes. It takes no memory; the rope comes or goes at its place among those that are due, of which a few hundred move at most.
@@ -258,14 +324,13 @@ impl RopeTable {
         ensures spare_ropes { self.old.spare_ropes ≤ self.new.spare_ropes }
         ensures spare_pairs { self.new.spare_pairs ≡ self.old.spare_pairs }
     {
-        let Some(rope) = self.ropes.find(id) else {
+        let Some(was) = self.ropes.keep(id, kept) else {
             return;
         };
-        if rope.kept == kept {
+        if was.kept == kept {
             return;
         }
-        let due = due_of(id, rope.idle, rope.wait);
-        self.ropes.keep(id, kept);
+        let due = due_of(id, was.idle, was.wait);
         if kept {
             self.dues.leave(due);
             return;

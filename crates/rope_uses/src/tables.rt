@@ -112,7 +112,7 @@ fn live_are(table: &RopeTable, blocks: u64, files: u64, pieces: u64) -> bool {
 fn ropes_of_one_moment_are_due_by_number(rt: HostRuntime) -> Result<(), Fail> {
     let mut table = of_three(rt.alloc())?;
     assert!(rt; due_are(&table, &[(60, 1), (60, 2), (120, 3)]));
-    table.set_idle(RopeId(1), Moment(100), 2, 50);
+    table.settle(RopeId(1), Moment(100), 2, 50);
     assert!(rt; due_are(&table, &[(60, 2), (120, 3), (150, 1)]));
     assert!(rt; table.idle(RopeId(1)) == Some(Moment(100)) && table.last(RopeId(1)) == Some(2));
     assert!(rt; table.wait(RopeId(1)) == Some(50) && table.wait(RopeId(4)).is_none());
@@ -293,8 +293,7 @@ fn many_ropes_go_from_the_middle(rt: HostRuntime) -> Result<(), Fail> {
     assert_eq!(rt; remove_each(&mut table, 500, 1000), 500);
     assert_eq!(rt; remove_each(&mut table, 500, 1000), 0);
     keep_each(&mut table, 1, 1500);
-    table.set_idle(RopeId(12000), Moment(1161), 1, 50);
-    table.keep(RopeId(12000), false);
+    table.settle(RopeId(12000), Moment(1161), 1, 50);
     table.keep(RopeId(3000), false);
     assert!(rt; middle_is_gone(&table));
     let copy = table.copy()?;

@@ -8,7 +8,7 @@ use std::sync::Wait;
 use std::test::Fail;
 use std::thread::Threads;
 use voice_disk::{MemDisk, image_of};
-use voice_journal::{Journal, Placed};
+use voice_journal::{Journal, RecordList};
 use voice_main::{Ended, Status, run};
 use voice_model::{Entry, Reply};
 use voice_outside::{Disk, MemShelf, MemSink, OpenGate};
@@ -184,7 +184,7 @@ pub struct Standing {
 }
 
 // The form and the moment that payloads come to.
-fn replayed(alloc: Global, shape: &Shape, payloads: &[Placed]) -> Result<(u8, u64), Fail> {
+fn replayed(alloc: Global, shape: &Shape, payloads: &RecordList) -> Result<(u8, u64), Fail> {
     if payloads.len() >= 1 << 31 {
         return Err(Fail::new("too many payloads"));
     }

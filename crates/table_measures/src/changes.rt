@@ -2,7 +2,7 @@
 
 use change_codec::{get, put};
 use std::alloc::Global;
-use voice_journal::Placed;
+use voice_journal::RecordList;
 use voice_units::NoMemory;
 
 /// The samples of a recording, which fill a block.
@@ -23,7 +23,7 @@ pub enum Kind {
 /// Records, and how many bytes their payloads have.
 #[derive(Drop)]
 pub struct Records {
-    pub list: Vec<Placed>,
+    pub list: RecordList,
     pub size: u64,
 }
 
@@ -79,7 +79,7 @@ fn retained(alloc: Global, key: u64, rope: u64) -> Result<Vec<u8>, NoMemory> {
 impl Records {
     fn new(alloc: Global) -> Records {
         Records {
-            list: Vec::new(alloc),
+            list: RecordList::new(alloc),
             size: 0,
         }
     }
@@ -93,7 +93,7 @@ impl Records {
         put(&change, &mut bytes)?;
         self.size = self.size.saturating_add(bytes.len() as u64);
         let place = self.size;
-        self.list.push(Placed { place, bytes })?;
+        self.list.push(place, &bytes)?;
         Ok(())
     }
 

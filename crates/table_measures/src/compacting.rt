@@ -12,7 +12,7 @@ use std::alloc::{AllocError, Global};
 use std::io::{self, ErrorKind};
 use std::rt::Clock;
 use std::time::{Duration, Instant};
-use voice_journal::Placed;
+use voice_journal::RecordList;
 use voice_units::Shape;
 
 // How many ropes all bases of a measurement have together.
@@ -44,7 +44,7 @@ fn spell_once<R: Clock>(
     rt: &R,
     alloc: Global,
     shape: &Shape,
-    list: &[Placed],
+    list: &RecordList,
 ) -> io::Result<(Duration, usize)> {
     if list.len() > 9_999_999 {
         return Err(io::Error::from(ErrorKind::InvalidInput));
@@ -59,7 +59,7 @@ fn spell_once<R: Clock>(
 fn spell_all<R: Clock>(
     rt: &R,
     alloc: Global,
-    list: &[Placed],
+    list: &RecordList,
     times: u32,
 ) -> io::Result<(Duration, usize)> {
     let shape = shape_of(4096, 1 << 16, 1 << 24)?;

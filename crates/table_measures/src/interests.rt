@@ -1,5 +1,6 @@
 //! Interests, as their number grows.
 
+use bench_report::report::middle;
 use interest_table::InterestTable;
 use std::alloc::{AllocError, Global};
 use std::io;
@@ -8,23 +9,21 @@ use std::time::{Duration, Instant};
 use voice_model::{Class, Key, Note, Row};
 use voice_units::{Moment, NoMemory, RopeId};
 
-// How many rows are made, or forgotten, between two looks at the clock.
+// How many rows are forgotten, and made, between two looks at the clock.
 const SOME: u32 = 10;
 
-// The best of so many tables counts.
-const TABLES: u32 = 5;
+// The middle of so many rounds counts.
+const ROUNDS: u32 = 21;
 
 // No row expires before this moment.
 const LATER: u64 = 1 << 39;
 
-// How long some calls of each kind took.
+// Which rows are forgotten, in order of making.
 #[derive(Clone, Copy)]
-struct Times {
-    retain: Duration,
-    first: Duration,
-    middle: Duration,
-    last: Duration,
-    sweep: Duration,
+enum Place {
+    First,
+    Middle,
+    Last,
 }
 
 // A key that spells a number, of eight letters.
@@ -107,47 +106,13 @@ fn time_sweep<R: Clock>(rt: &R, table: &InterestTable) -> io::Result<Duration> {
     }
 }
 
-// Rows are made behind so many, and the first, the middle and the last ones forgotten.
-fn time_table<R: Clock>(rt: &R, table: &mut InterestTable, rows: u32) -> io::Result<Times> {
-    met(retain_all(table, 0, rows))?;
-    let sweep = time_sweep(rt, table)?;
-    let first = time_forget(rt, table, 0)?;
-    let middle = time_forget(rt, table, rows / 2)?;
-    let last = time_forget(rt, table, rows.saturating_sub(SOME))?;
-    let retain = time_retain(rt, table, rows)?;
-    Ok(Times {
-        retain,
-        first,
-        middle,
-        last,
-        sweep,
-    })
-}
-
-fn time_new<R: Clock>(rt: &R, alloc: Global, rows: u32) -> io::Result<Times> {
-    let mut table = InterestTable::new(alloc);
-    time_table(rt, &mut table, rows)
-}
-
-impl Times {
-    fn best(self, other: Times) -> Times {
-        Times {
-            retain: self.retain.min(other.retain),
-            first: self.first.min(other.first),
-            middle: self.middle.min(other.middle),
-            last: self.last.min(other.last),
-            sweep: self.sweep.min(other.sweep),
-        }
+// The number of the first row that is forgotten, of so many.
+fn number_at(place: Place, rows: u32) -> u32 {
+    match place {
+        Place::First => 0,
+        Place::Middle => rows / 2,
+        Place::Last => rows.saturating_sub(SOME),
     }
-}
-
-fn best_times<R: Clock>(rt: &R, alloc: Global, rows: u32) -> io::Result<Times> {
-    let mut times = time_new(rt, alloc, rows)?;
-    for _ in 1..TABLES {
-        let more = time_new(rt, alloc, rows)?;
-        times = times.best(more);
-    }
-    Ok(times)
 }
 
 // The nanoseconds of one of some calls.
@@ -155,19 +120,65 @@ fn nanos(took: Duration) -> u128 {
     took.as_nanos() / u128::from(SOME)
 }
 
+// How long a row takes to be forgotten, and another one to be made behind all. As many rows stand after it.
+fn time_round<R: Clock>(
+    rt: &R,
+    table: &mut InterestTable,
+    rows: u32,
+    place: Place,
+    round: u32,
+) -> io::Result<(u128, u128)> {
+    let gone = round.saturating_mul(SOME);
+    let forget = time_forget(rt, table, number_at(place, rows).saturating_add(gone))?;
+    let retain = time_retain(rt, table, rows.saturating_add(gone))?;
+    Ok((nanos(forget), nanos(retain)))
+}
+
+fn table_of(alloc: Global, rows: u32) -> io::Result<InterestTable> {
+    let mut table = InterestTable::new(alloc);
+    met(retain_all(&mut table, 0, rows))?;
+    Ok(table)
+}
+
+// The same, the middle of all rounds.
+fn time_rounds<R: Clock>(
+    rt: &R,
+    alloc: Global,
+    rows: u32,
+    place: Place,
+) -> io::Result<(u128, u128)> {
+    let mut table = table_of(alloc, rows)?;
+    let mut forgets = Vec::new(alloc);
+    let mut retains = Vec::new(alloc);
+    for round in 0..ROUNDS {
+        let (forget, retain) = time_round(rt, &mut table, rows, place, round)?;
+        forgets.push(forget)?;
+        retains.push(retain)?;
+    }
+    Ok((middle(&mut forgets), middle(&mut retains)))
+}
+
+// How long a look for expired rows takes, the middle of all rounds.
+fn time_sweeps<R: Clock>(rt: &R, alloc: Global, rows: u32) -> io::Result<u128> {
+    let table = table_of(alloc, rows)?;
+    let mut sweeps = Vec::new(alloc);
+    for _ in 0..ROUNDS {
+        sweeps.push(time_sweep(rt, &table)?.as_nanos())?;
+    }
+    Ok(middle(&mut sweeps))
+}
+
 fn measure_rows<R: Print + Clock>(rt: &R, alloc: Global, rows: u32) -> io::Result<()> {
-    let times = best_times(rt, alloc, rows)?;
-    let retain = nanos(times.retain);
-    let first = nanos(times.first);
-    let middle = nanos(times.middle);
-    let last = nanos(times.last);
-    let sweep = times.sweep.as_nanos();
+    let (first, retain) = time_rounds(rt, alloc, rows, Place::First)?;
+    let (inner, _) = time_rounds(rt, alloc, rows, Place::Middle)?;
+    let (last, _) = time_rounds(rt, alloc, rows, Place::Last)?;
+    let sweep = time_sweeps(rt, alloc, rows)?;
     println!(rt;
-        "{rows} rows: retain {retain} ns, forget the first {first} ns, in the middle {middle} ns, the last {last} ns, look for expired ones {sweep} ns"
+        "{rows} rows: retain {retain} ns, forget the first {first} ns, in the middle {inner} ns, the last {last} ns, look for expired ones {sweep} ns"
     )
 }
 
-/// Prints what an interest costs to make and to forget, and what it costs to see that none has expired, by the number of interests.
+/// Prints what an interest costs to make and to forget, and what it costs to see that none has expired, by the number of interests: the middle of some rounds of ten calls each.
 pub fn measure<R: Print + Clock + AllocGlobal>(rt: &R) -> io::Result<()> {
     measure_rows(rt, rt.alloc(), 100)?;
     measure_rows(rt, rt.alloc(), 1_000)?;

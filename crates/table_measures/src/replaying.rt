@@ -9,7 +9,7 @@ use std::alloc::{AllocError, Global};
 use std::io::{self, ErrorKind};
 use std::rt::Clock;
 use std::time::{Duration, Instant};
-use voice_journal::Placed;
+use voice_journal::RecordList;
 use voice_model::{Change, Class, Key};
 use voice_units::{Piece, RopeId, Shape};
 
@@ -23,7 +23,7 @@ fn replay_all<R: Clock>(
     rt: &R,
     alloc: Global,
     shape: &Shape,
-    list: &[Placed],
+    list: &RecordList,
 ) -> io::Result<(Parts, Duration)> {
     if list.len() > 9_999_999 {
         return Err(io::Error::from(ErrorKind::InvalidInput));
@@ -79,10 +79,13 @@ fn look_up(parts: &Parts, change: &Change) -> u64 {
 }
 
 // The sum of what is found of the numbers that changes name, and of a 1 for each change that is read.
-fn read_plainly(alloc: Global, list: &[Placed], parts: &Parts) -> u64 {
+fn read_plainly(alloc: Global, list: &RecordList, parts: &Parts) -> u64 {
     let mut sum = 0u64;
-    for record in list {
-        if let Ok(change) = get(alloc, &record.bytes) {
+    for index in 0..u32::MAX {
+        let Some(bytes) = list.get(index) else {
+            return sum;
+        };
+        if let Ok(change) = get(alloc, bytes) {
             sum = sum.wrapping_add(1).wrapping_add(look_up(parts, &change));
         }
     }
@@ -93,7 +96,7 @@ fn read_plainly(alloc: Global, list: &[Placed], parts: &Parts) -> u64 {
 fn time_plainly<R: Clock>(
     rt: &R,
     alloc: Global,
-    list: &[Placed],
+    list: &RecordList,
     parts: &Parts,
     replayed: Duration,
 ) -> io::Result<(Duration, Duration)> {
@@ -111,14 +114,14 @@ fn compare_once<R: Clock>(
     rt: &R,
     alloc: Global,
     shape: &Shape,
-    list: &[Placed],
+    list: &RecordList,
 ) -> io::Result<(Duration, Duration)> {
     let (parts, took) = replay_all(rt, alloc, shape, list)?;
     time_plainly(rt, alloc, list, &parts, took)
 }
 
 // How long both take at their best.
-fn compare<R: Clock>(rt: &R, alloc: Global, list: &[Placed]) -> io::Result<(Duration, Duration)> {
+fn compare<R: Clock>(rt: &R, alloc: Global, list: &RecordList) -> io::Result<(Duration, Duration)> {
     let shape = shape_of(BLOCK, 1 << 16, 1 << 24)?;
     let mut took = Duration::MAX;
     let mut bare = Duration::MAX;

@@ -12,6 +12,7 @@ pub mod Commits
 pub mod Whole
 pub mod Writing
 pub mod Choosing
+pub mod Lending
 pub mod Stepping
 pub mod Areas
 pub mod Beyond

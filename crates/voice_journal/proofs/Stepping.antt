@@ -5,19 +5,22 @@ use Rattle.std.proofs.lemmas.Bool.{eq-eqb, ne_eqb, lt-ltb, le-ltb}
 use Rattle.disk_areas.specs.Numbers.{spelled_number, number_at}
 use Rattle.disk_areas.specs.Areas.{Record, Records, with_record, if_sound, if_open, records_from}
 use Rattle.voice_journal.specs.Readings.{record_at}
-use Rattle.voice_journal.specs.Parsed.{placed, shown, AreRead}
-use Rattle.voice_journal.specs.declared.lists.Placed.{Placed}
+use Rattle.voice_journal.specs.Lent.{record_in, lent, AreWithin}
+use Rattle.voice_journal.specs.Parsed.{placed, AreRead}
+use Rattle.voice_journal.specs.declared.lists.Span.{Span}
+use Rattle.voice_journal.proofs.Lending.{lent_push, within_push}
 
 abbrev pub prepend : List Record → Records → Records
 prepend [] later = later
 prepend (r ∷ rs) later = with_record r (prepend rs later)
 
 -- so much of an area was read
-pub record IsReading (start : ℕ) (area : List ℕ) (payloads : List Placed) (gate : ℕ) : Type 0 where
+pub record IsReading (start : ℕ) (area : List ℕ) (spans : List Span) (gate : ℕ) : Type 0 where
   pub rs : List Record
   pub most : ℕ
-  pub show : shown payloads ≡ placed start rs
-  pub from : 16 + 5 * length payloads ≤ gate
+  pub show : lent area spans ≡ placed start rs
+  pub inside : AreWithin gate spans
+  pub from : 16 + 5 * length spans ≤ gate
   pub within : gate < length area
   pub enough : length area ≤ gate + most
   pub reads : records_from (length area) (length area) 16 (drop 16 area) ≡ prepend rs (records_from most (length area) gate (drop gate area))
@@ -75,20 +78,20 @@ prepend_more [] r later = refl
 prepend_more (q ∷ rs) r later = ap (λ (x : Records). with_record q x) (prepend_more rs r later)
 
 pub begin : (start : ℕ) (area : List ℕ) → 512 ≤ length area → IsReading start area [] 16
-begin start area size = record { rs = []; most = length area; show = refl; from = omega arith; within = omega arith; enough = omega arith; reads = refl }
+begin start area size = record { rs = []; most = length area; show = refl; inside = tt; from = omega arith; within = omega arith; enough = omega arith; reads = refl }
 
 -- a gate that is not 1 ends the list
-pub ended : (start : ℕ) (area : List ℕ) (payloads : List Placed) (gate : ℕ) → IsReading start area payloads gate → get_or area gate 0 ≢ 1 → (rs : List Record) × AreRead start area payloads gate rs
-ended start area payloads gate is shut = (is.rs, record { records = is.reads ∙ ap (λ (x : Records). prepend is.rs x) (by is.most is.enough) ∙ prepend_sound is.rs gate; show = is.show; from = let f = is.from in omega arith; within = is.within; few = let f = is.from in let w = is.within in omega arith })
+pub ended : (start : ℕ) (area : List ℕ) (spans : List Span) (gate : ℕ) → IsReading start area spans gate → get_or area gate 0 ≢ 1 → (rs : List Record) × AreRead start area spans gate rs
+ended start area spans gate is shut = (is.rs, record { records = is.reads ∙ ap (λ (x : Records). prepend is.rs x) (by is.most is.enough) ∙ prepend_sound is.rs gate; show = is.show; inside = is.inside; from = let f = is.from in omega arith; within = is.within; few = let f = is.from in let w = is.within in omega arith })
   where
     by : (most : ℕ) → length area ≤ gate + most → records_from most (length area) gate (drop gate area) ≡ Records.Sound [] gate
     by zero enough = absurd (let w = is.within in omega arith)
     by (suc most) enough = stepped area most gate is.within ∙ closed (get_or area gate 0 == 1) gate _ (ne_eqb (get_or area gate 0) 1 shut)
 
 -- a length that breaks the condition
-pub refused : (start : ℕ) (area : List ℕ) (payloads : List Placed) (gate : ℕ) → IsReading start area payloads gate → get_or area gate 0 ≡ 1 → length area ≤ gate + 5 + number_at 4 (gate + 1) area
+pub refused : (start : ℕ) (area : List ℕ) (spans : List Span) (gate : ℕ) → IsReading start area spans gate → get_or area gate 0 ≡ 1 → length area ≤ gate + 5 + number_at 4 (gate + 1) area
     → records_from (length area) (length area) 16 (drop 16 area) ≡ Records.Broken gate
-refused start area payloads gate is one long = is.reads ∙ ap (λ (x : Records). prepend is.rs x) (by is.most is.enough) ∙ prepend_broken is.rs gate
+refused start area spans gate is one long = is.reads ∙ ap (λ (x : Records). prepend is.rs x) (by is.most is.enough) ∙ prepend_broken is.rs gate
   where
     by : (most : ℕ) → length area ≤ gate + most → records_from most (length area) gate (drop gate area) ≡ Records.Broken gate
     by zero enough = absurd (let w = is.within in omega arith)
@@ -98,26 +101,22 @@ refused start area payloads gate is one long = is.reads ∙ ap (λ (x : Records)
         (le-ltb _ _ (subst (λ (n : ℕ). length area ≤ gate + 5 + n) (sym (len_at area gate)) long))
 
 -- a sound record
-pub gone : (start : ℕ) (area : List ℕ) (payloads : List Placed) (gate len : ℕ) (p : Placed) (next : ℕ) (all : List Placed) → IsReading start area payloads gate → get_or area gate 0 ≡ 1 → len ≡ number_at 4 (gate + 1) area → gate + 5 + len < length area
-    → p.place ≡ start + gate → p.bytes.items ≡ take len (drop (gate + 5) area) → next ≡ gate + 5 + len → all ≡ payloads ++ p ∷ [] → IsReading start area all next
-gone start area payloads gate len p next all is one len_is room place bytes next_is all_is = by is.most is.enough is.reads
+pub gone : (start : ℕ) (area : List ℕ) (spans : List Span) (gate len : ℕ) (p : Span) (next : ℕ) (all : List Span) → IsReading start area spans gate → get_or area gate 0 ≡ 1 → len ≡ number_at 4 (gate + 1) area → gate + 5 + len < length area
+    → p ≡ record { place = start + gate; from = gate + 5; len = len } → next ≡ gate + 5 + len → all ≡ spans ++ p ∷ [] → IsReading start area all next
+gone start area spans gate len p next all is one len_is room p_is next_is all_is = by is.most is.enough is.reads
   where
-    r : Record
-    r = record_at gate (take len (drop (gate + 5) area))
+    placed_more : (rs : List Record) (x : Record) → placed start (rs ++ x ∷ []) ≡ placed start rs ++ record_at (start + x.at) x.payload ∷ []
+    placed_more [] x = refl
+    placed_more (q ∷ rs) x = ap (λ (l : List Record). record_at (start + q.at) q.payload ∷ l) (placed_more rs x)
 
-    shows : (ps : List Placed) (rs : List Record) → shown ps ≡ placed start rs → shown (ps ++ p ∷ []) ≡ placed start (rs ++ record_at gate (take len (drop (gate + 5) area)) ∷ [])
-    shows ps rs e =
-        appended ps p ∙ ap (λ (l : List Record). l ++ record_at p.place p.bytes.items ∷ []) e
-        ∙ ap (λ (x : Record). placed start rs ++ x ∷ []) (ap (λ (n : ℕ). record_at n p.bytes.items) place ∙ ap (λ (l : List ℕ). record_at (start + gate) l) bytes)
-        ∙ sym (placed_more rs (record_at gate (take len (drop (gate + 5) area))))
-      where
-        appended : (ps : List Placed) (p : Placed) → shown (ps ++ p ∷ []) ≡ shown ps ++ record_at p.place p.bytes.items ∷ []
-        appended [] p = refl
-        appended (q ∷ ps) p = ap (λ (l : List Record). record_at q.place q.bytes.items ∷ l) (appended ps p)
+    shows : lent area (spans ++ p ∷ []) ≡ placed start (is.rs ++ record_at gate (take len (drop (gate + 5) area)) ∷ [])
+    shows =
+        lent_push area spans p ∙ ap (λ (l : List Record). l ++ record_in area p ∷ []) is.show
+        ∙ ap (λ (s : Span). placed start is.rs ++ record_in area s ∷ []) p_is
+        ∙ sym (placed_more is.rs (record_at gate (take len (drop (gate + 5) area))))
 
-        placed_more : (rs : List Record) (x : Record) → placed start (rs ++ x ∷ []) ≡ placed start rs ++ record_at (start + x.at) x.payload ∷ []
-        placed_more [] x = refl
-        placed_more (q ∷ rs) x = ap (λ (l : List Record). record_at (start + q.at) q.payload ∷ l) (placed_more rs x)
+    ends : p.from + p.len ≤ next
+    ends = subst (λ (s : Span). s.from + s.len ≤ next) (sym p_is) (omega (arith, next_is))
 
     moved : (most : ℕ) → records_from (suc most) (length area) gate (drop gate area) ≡ with_record (record_at gate (take len (drop (gate + 5) area))) (records_from most (length area) (gate + 5 + len) (drop (gate + 5 + len) area))
     moved most =
@@ -135,11 +134,12 @@ gone start area payloads gate len p next all is one len_is room place bytes next
     by zero enough reads = absurd (let w = is.within in omega arith)
     by (suc most) enough reads =
         let x : Record = record_at gate (take len (drop (gate + 5) area)) in
-        let size : length all ≡ length payloads + 1 = ap length all_is ∙ length-append payloads (p ∷ []) in
+        let size : length all ≡ length spans + 1 = ap length all_is ∙ length-append spans (p ∷ []) in
         record {
           rs = is.rs ++ x ∷ [];
           most = most;
-          show = ap shown all_is ∙ shows payloads is.rs is.show;
+          show = ap (lent area) all_is ∙ shows;
+          inside = subst (AreWithin next) (sym all_is) (within_push gate next spans p is.inside (omega (arith, next_is)) ends);
           from = let f = is.from in omega (arith, size, next_is, f);
           within = omega (arith, room, next_is);
           enough = omega (arith, enough, next_is);

@@ -1,4 +1,5 @@
 pub mod Readings
+pub mod Lent
 pub mod Spelled
 pub mod Formatted
 pub mod Places

@@ -7,5 +7,5 @@ use Rattle.voice_journal.specs.declared.parsing.Parsed.TheVariants as parsed
 
 -- the records, or the gate of the first whose length breaks the condition
 abbrev pub IsParsed : ℕ → List ℕ → Parsed → Type 0
-IsParsed start area (parsed.Sound payloads gate) = (rs : List Record) × AreRead start area payloads.items gate rs
+IsParsed start area (parsed.Sound spans gate) = (rs : List Record) × AreRead start area spans.items gate rs
 IsParsed start area (parsed.Broken gate) = (records_from (length area) (length area) 16 (drop 16 area) ≡ Records.Broken gate) × (gate < length area)

@@ -18,6 +18,6 @@ mod superblocks;
 mod switching;
 
 pub use errors::{Fault, OpenError};
-pub use lists::{Payloads, Placed};
+pub use lists::{Payloads, RecordList};
 pub use opening::Opened;
 pub use seats::{Doubt, Journal, Seat};

@@ -1,17 +1,89 @@
 //! Payloads, with their places and without.
 
 ghost use Rattle.std.specs.Prelude.{◌≡◌, ◌+◌, ◌<◌, ◌≤◌, ◌^◌, ◌++◌, ◌∷◌, [], ℕ, List, length, OnOk, OnErr, MatchOption, slice_get, Some, None};
-ghost use Rattle.voice_journal.specs.Readings.{framed_size, views};
+ghost use Rattle.voice_journal.specs.Readings.{framed_size, record_at, views};
 
 use std::alloc::Global;
 use std::marker::Model;
 use voice_units::NoMemory;
 
-/// A record's payload, and the byte of the disk at which its gate stands.
-#[derive(Drop)]
-pub struct Placed {
+/// Where a record's gate stands on the disk, and which part of some bytes its payload is.
+#[derive(Clone, Copy)]
+pub struct Span {
     pub place: u64,
-    pub bytes: Vec<u8>,
+    pub from: usize,
+    pub len: usize,
+}
+
+/// Records: the byte of the disk at which each one's gate stands, and its payload. Payloads are lent. Contracts see the list of the records.
+#[derive(Drop)]
+pub struct RecordList {
+    pub(crate) bytes: Vec<u8>,
+    pub(crate) spans: Vec<Span>,
+}
+
+impl Model for RecordList {
+    ghost use Rattle.std.specs.Prelude.{List, length};
+    ghost use Rattle.disk_areas.specs.Areas.{Record};
+
+    ghost Value = { List Record };
+
+    ghost use Rattle.voice_journal.specs.Lent.{lent, AreWithin};
+
+    ghost view = { λ a. lent a.bytes.items a.spans.items };
+
+    ghost invariant = { λ a. AreWithin (length a.bytes.items) a.spans.items };
+}
+
+impl RecordList {
+    /// No record.
+    pub fn new(alloc: Global) -> RecordList
+        ensures { result ≡ [] }
+    {
+        RecordList {
+            bytes: Vec::new(alloc),
+            spans: Vec::new(alloc),
+        }
+    }
+
+    /// Adds a record behind the others, with a copy of its payload. After `NoMemory` nothing is changed.
+    pub fn push(&mut self, place: u64, payload: &[u8]) -> Result<(), NoMemory>
+        ensures ok { OnOk result (self.new ≡ self.old ++ record_at place payload.now ∷ []) }
+        ensures err { OnErr result (self.new ≡ self.old) }
+    {
+        let from = self.bytes.len();
+        let len = payload.len();
+        self.bytes.extend_from_slice(payload)?;
+        self.spans.push(Span { place, from, len })?;
+        Ok(())
+    }
+
+    /// How many records there are.
+    pub fn len(&self) -> usize
+        ensures { result ≡ length self.now }
+    {
+        self.spans.len()
+    }
+
+    /// The place of the record of this index, counted from 0; `None` exactly where there are not so many.
+    pub fn place(&self, k: u32) -> Option<u64>
+        ensures { MatchOption result (slice_get self.now k ≡ None) (λ place. (payload : List ℕ) × slice_get self.now k ≡ Some (record_at place payload)) }
+    {
+        match self.spans.get(k as usize) {
+            Some(span) => Some(span.place),
+            None => None,
+        }
+    }
+
+    /// The payload of the record of this index, counted from 0; `None` exactly where there are not so many.
+    pub fn get(&self, k: u32) -> Option<&[u8]>
+        ensures { MatchOption result (slice_get self.now k ≡ None) (λ bytes. (place : ℕ) × slice_get self.now k ≡ Some (record_at place bytes.now)) }
+    {
+        match self.spans.get(k as usize) {
+            Some(span) => Some(&self.bytes[span.from..span.from + span.len]),
+            None => None,
+        }
+    }
 }
 
 /// Payloads for an area. Contracts see the list of their bytes.

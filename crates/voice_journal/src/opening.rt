@@ -1,6 +1,6 @@
 //! Opens a journal.
 
-ghost use Rattle.std.specs.Prelude.{◌≡◌, ◌+◌, ◌≤◌, ◌<◌, ◌^◌, ℕ, List, length, vec_len, not, IsTrue, IsErrOf, IsErrAnd, IfOk, IfErr, OnOk, None, Some, MatchResult};
+ghost use Rattle.std.specs.Prelude.{◌≡◌, ◌+◌, ◌≤◌, ◌<◌, ◌^◌, ℕ, List, length, not, IsTrue, IsErrOf, IsErrAnd, IfOk, IfErr, OnOk, None, Some, MatchResult};
 ghost use Rattle.voice_outside.specs.Disk.{Now, segment};
 ghost use Rattle.voice_outside.specs.Counters.{HasRisen};
 ghost use Rattle.disk_areas.specs.Areas.{Journal as Reading};
@@ -14,7 +14,7 @@ ghost use Rattle.voice_journal.specs.Opens.{IfBad, IsBadAt, IsOpened};
 use crate::device::{read_part, settle};
 use crate::errors::OpenError;
 use crate::heads::{Current, choose};
-use crate::lists::Placed;
+use crate::lists::RecordList;
 use crate::parsing::{Parsed, read_records};
 use crate::seats::{Journal, Seat, start_of};
 use crate::superblocks::read_superblock;
@@ -27,7 +27,7 @@ use voice_units::Shape;
 pub struct Opened {
     pub shape: Shape,
     pub journal: Journal,
-    pub payloads: Vec<Placed>,
+    pub payloads: RecordList,
 }
 
 // Syncs, and reads the shape.
@@ -88,7 +88,7 @@ impl Journal {
         ensures looks { Looks 5 (D.told disk.old) (D.told disk.new) }
         ensures cause { IsErrOf result OpenError.DiskFault → HasRisen (D.told disk.old).faults (D.told disk.new).faults }
         ensures fits { IfOk result (λ opened. extent opened.shape ≤ (D.told disk.new).size) }
-        ensures few { IfOk result (λ opened. vec_len opened.payloads < 2 ^ 24) }
+        ensures few { IfOk result (λ opened. length opened.payloads < 2 ^ 24) }
         ensures same { IfOk result (λ opened. opened.journal.shape ≡ opened.shape) }
         ensures sure { IfOk result (λ opened. opened.journal.doubt ≡ None) }
         ensures moment { OnOk result ((D.told disk.old).calls + 1 ≤ (D.told disk.new).calls) }
@@ -107,7 +107,9 @@ impl Journal {
         }
         match read_records(alloc, &room, start)? {
             Parsed::Broken(gate) => Err(OpenError::BadDisk(start + gate as u64)),
-            Parsed::Sound(payloads, gate) => {
+            Parsed::Sound(spans, gate) => {
+                let bytes = room[..gate].to_vec(alloc)?;
+                let payloads = RecordList { bytes, spans };
                 let seat = Seat {
                     second: current.second,
                     epoch: current.epoch,

@@ -3,14 +3,14 @@
 ghost use Rattle.std.specs.Prelude.{◌≡◌, ◌+◌, ◌<◌, ◌≤◌, ◌^◌, ℕ, List, length, drop, IfOk};
 ghost use Rattle.voice_journal.specs.Records.{IsParsed};
 
-use crate::lists::Placed;
+use crate::lists::Span;
 use crate::numbers::number_4;
 use std::alloc::{AllocError, Global};
 
-// The payloads of an area and the gate behind them, or the gate of the first record whose length breaks the condition.
+// Where the payloads of an area lie in it, and the gate behind them, or the gate of the first record whose length breaks the condition.
 #[derive(Drop)]
 pub enum Parsed {
-    Sound(Vec<Placed>, usize),
+    Sound(Vec<Span>, usize),
     Broken(usize),
 }
 
@@ -21,7 +21,7 @@ pub fn read_records(alloc: Global, area: &[u8], start: u64) -> Result<Parsed, Al
     requires place { start ≤ 2 ^ 32 }
     ensures { IfOk result (IsParsed start area.now) }
 {
-    let mut payloads = Vec::new(alloc);
+    let mut spans = Vec::new(alloc);
     let mut gate = 16usize;
     while area[gate] == 1 {
         let rest = area.len() - gate;
@@ -32,10 +32,12 @@ pub fn read_records(alloc: Global, area: &[u8], start: u64) -> Result<Parsed, Al
         if len >= rest - 5 {
             return Ok(Parsed::Broken(gate));
         }
-        let bytes = area[gate + 5..gate + 5 + len].to_vec(alloc)?;
-        let place = start + gate as u64;
-        payloads.push(Placed { place, bytes })?;
+        spans.push(Span {
+            place: start + gate as u64,
+            from: gate + 5,
+            len,
+        })?;
         gate += 5 + len;
     }
-    Ok(Parsed::Sound(payloads, gate))
+    Ok(Parsed::Sound(spans, gate))
 }

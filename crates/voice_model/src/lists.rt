@@ -133,6 +133,13 @@ impl PieceList {
     {
         &self.items
     }
+
+    /// Its items, in order, moved out of it. It takes no memory.
+    pub fn into_items(self) -> Vec<Piece>
+        ensures { result.items ≡ self }
+    {
+        self.items
+    }
 }
 
 /// Addresses of blocks.

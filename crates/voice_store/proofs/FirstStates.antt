@@ -8,12 +8,11 @@ use Rattle.voice_units.specs.declared.shapes.Shape.{Shape}
 use Rattle.voice_outside.specs.Disk.{Told}
 use Rattle.disk_areas.specs.Areas as journal
 use Rattle.voice_journal.specs.Places.{JournalValue}
-use Rattle.voice_journal.specs.Parsed.{placed, shown}
-use Rattle.voice_journal.specs.Readings.{extent, record_at}
+use Rattle.voice_journal.specs.Parsed.{placed}
+use Rattle.voice_journal.specs.Readings.{extent}
 use Rattle.voice_journal.specs.Opens.{IsOpened}
 use Rattle.voice_journal.specs.Looks.{Since}
 use Rattle.voice_journal.specs.Stands.{IsAt}
-use Rattle.voice_journal.specs.declared.lists.Placed.{Placed}
 use Rattle.voice_journal.specs.declared.opening.Opened.{Opened}
 use Rattle.voice_model.specs.State.{State, opened, quiet_lane}
 use Rattle.voice_model.specs.Changes.{taking_of}
@@ -47,39 +46,30 @@ use Rattle.voice_store.proofs.Refusals.{refused_there}
 
 -- ---- payloads that were read
 
-shown_payloads : (ps : List Placed) → payloads_of (shown ps) ≡ bytes_of ps
-shown_payloads [] = refl
-shown_payloads (p ∷ ps) = ap (λ (l : List (List ℕ)). p.bytes.items ∷ l) (shown_payloads ps)
-
 placed_payloads : (start : ℕ) (rs : List journal.Record) → payloads_of (placed start rs) ≡ payloads_of rs
 placed_payloads start [] = refl
 placed_payloads start (r ∷ rs) = ap (λ (l : List (List ℕ)). r.payload ∷ l) (placed_payloads start rs)
 
 -- the payloads of the records are those that were read
-payloads_read : (start : ℕ) (ps : List Placed) (rs : List journal.Record) → shown ps ≡ placed start rs → payloads_of rs ≡ bytes_of ps
-payloads_read start ps rs e = sym (placed_payloads start rs) ∙ sym (ap (λ (l : List journal.Record). payloads_of l) e) ∙ shown_payloads ps
-
-shown_at : (ps : List Placed) (k : ℕ) (one : Placed) → slice_get ps k ≡ Some one → slice_get (shown ps) k ≡ Some (record_at one.place one.bytes.items)
-shown_at [] k one e = cc
-shown_at (p ∷ ps) zero one e = let same : p ≡ one = cc in ap (λ (x : Placed). Some (record_at x.place x.bytes.items)) same
-shown_at (p ∷ ps) (suc k) one e = shown_at ps k one e
+payloads_read : (start : ℕ) (ps rs : List journal.Record) → ps ≡ placed start rs → payloads_of rs ≡ bytes_of ps
+payloads_read start ps rs e = sym (placed_payloads start rs) ∙ sym (ap (λ (l : List journal.Record). payloads_of l) e)
 
 -- what they rebuild is what the records rebuild
 read_rebuilds : (bytes : List ℕ) (disk : Told) (opening : Opened) (r : journal.Journal) → IsOpened bytes disk opening r → opening.journal.shape ≡ opening.shape
-    → (x : Replayed) → replayed (nothing_rebuilt opening.shape) (records_of opening.payloads.items) ≡ x → replayed (nothing_rebuilt r.shape) (numbered 0 (payloads_of r.records)) ≡ x
+    → (x : Replayed) → replayed (nothing_rebuilt opening.shape) (records_of opening.payloads) ≡ x → replayed (nothing_rebuilt r.shape) (numbered 0 (payloads_of r.records)) ≡ x
 read_rebuilds bytes disk opening r is same x e =
-    ap (λ (l : List (List ℕ)). replayed (nothing_rebuilt r.shape) (numbered 0 l)) (payloads_read r.start opening.payloads.items r.records is.payloads)
-    ∙ ap (λ (shape : Shape). replayed (nothing_rebuilt shape) (records_of opening.payloads.items)) (sym is.stands.at.shape_is ∙ same) ∙ e
+    ap (λ (l : List (List ℕ)). replayed (nothing_rebuilt r.shape) (numbered 0 l)) (payloads_read r.start opening.payloads r.records is.payloads)
+    ∙ ap (λ (shape : Shape). replayed (nothing_rebuilt shape) (records_of opening.payloads)) (sym is.stands.at.shape_is ∙ same) ∙ e
 
 -- one that is refused is damage at its gate's place
 pub refused_place : (bytes : List ℕ) (disk : Told) (opening : Opened) (r : journal.Journal) → IsOpened bytes disk opening r → opening.journal.shape ≡ opening.shape
-    → (k place : ℕ) → replayed (nothing_rebuilt opening.shape) (records_of opening.payloads.items) ≡ Replayed.Refused k
-    → ((one : Placed) → slice_get opening.payloads.items k ≡ Some one → place ≡ one.place) → reading bytes ≡ Reading.Bad place
+    → (k place : ℕ) → replayed (nothing_rebuilt opening.shape) (records_of opening.payloads) ≡ Replayed.Refused k
+    → ((one : journal.Record) → slice_get opening.payloads k ≡ Some one → place ≡ one.at) → reading bytes ≡ Reading.Bad place
 refused_place bytes disk opening r is same k place refused at =
-    let there = refused_there (nothing_rebuilt opening.shape) opening.payloads.items k refused in
-    let found : slice_get (placed r.start r.records) k ≡ Some (record_at there.one.place there.one.bytes.items) =
-    ap (λ (l : List journal.Record). slice_get l k) (sym is.payloads) ∙ shown_at opening.payloads.items k there.one there.at in
-    numbered_bad bytes r k (record_at there.one.place there.one.bytes.items) is.reads (read_rebuilds bytes disk opening r is same (Replayed.Refused k) refused) found
+    let there = refused_there (nothing_rebuilt opening.shape) opening.payloads k refused in
+    let found : slice_get (placed r.start r.records) k ≡ Some there.one =
+    ap (λ (l : List journal.Record). slice_get l k) (sym is.payloads) ∙ there.at in
+    numbered_bad bytes r k there.one is.reads (read_rebuilds bytes disk opening r is same (Replayed.Refused k) refused) found
     ∙ ap (λ (n : ℕ). Reading.Bad n) (sym (at there.one there.at))
 
 -- ---- the first state
@@ -89,17 +79,17 @@ abbrev pub first_of : List ℕ → JournalValue → Rebuilt → State
 first_of bytes j b = opened (recovered bytes b) (j.shape.area - 1 - j.seat.gate) j.seat.epoch b.form
 
 -- payloads as a journal's records
-abbrev as_journal : Shape → List Placed → journal.Journal
-as_journal shape ps = record { shape = shape; start = 0; epoch = 0; records = shown ps; gate = 0 }
+abbrev as_journal : Shape → List journal.Record → journal.Journal
+as_journal shape ps = record { shape = shape; start = 0; epoch = 0; records = ps; gate = 0 }
 
-as_rebuild : (shape : Shape) (ps : List Placed) (b : Rebuilt) → replayed (nothing_rebuilt shape) (records_of ps) ≡ Replayed.All b → Rebuild (as_journal shape ps) b
-as_rebuild shape ps b e = numbered_all (as_journal shape ps) b (ap (λ (l : List (List ℕ)). replayed (nothing_rebuilt shape) (numbered 0 l)) (shown_payloads ps) ∙ e)
+as_rebuild : (shape : Shape) (ps : List journal.Record) (b : Rebuilt) → replayed (nothing_rebuilt shape) (records_of ps) ≡ Replayed.All b → Rebuild (as_journal shape ps) b
+as_rebuild shape ps b e = numbered_all (as_journal shape ps) b e
 
 -- its shape is the journal's, and it is a state, whatever the bytes are
-shape_rebuilt : (shape : Shape) (ps : List Placed) (b : Rebuilt) → replayed (nothing_rebuilt shape) (records_of ps) ≡ Replayed.All b → b.shape ≡ shape
+shape_rebuilt : (shape : Shape) (ps : List journal.Record) (b : Rebuilt) → replayed (nothing_rebuilt shape) (records_of ps) ≡ Replayed.All b → b.shape ≡ shape
 shape_rebuilt shape ps b e = let v = valid (as_journal shape ps) b (as_rebuild shape ps b e) in v.3
 
-first_valid : (bytes : List ℕ) (shape : Shape) (ps : List Placed) (b : Rebuilt) (left epoch : ℕ) → replayed (nothing_rebuilt shape) (records_of ps) ≡ Replayed.All b
+first_valid : (bytes : List ℕ) (shape : Shape) (ps : List journal.Record) (b : Rebuilt) (left epoch : ℕ) → replayed (nothing_rebuilt shape) (records_of ps) ≡ Replayed.All b
     → left ≤ shape.area - 17 → IsState (opened (recovered bytes b) left epoch b.form)
 first_valid bytes shape ps b left epoch e le = state (as_journal shape ps) b bytes left epoch (as_rebuild shape ps b e) le
 
@@ -111,7 +101,7 @@ same_first bytes j r b at =
     ∙ ap (λ (epoch : ℕ). opened (recovered bytes b) (r.shape.area - 1 - r.gate) epoch b.form) at.epoch
 
 module _ (tapes : List (List ℕ)) (t0 : ℕ) (bytes : List ℕ) (disk : Told) (opening : Opened) (b : Rebuilt) (same : opening.journal.shape ≡ opening.shape)
-    (rebuilds : replayed (nothing_rebuilt opening.shape) (records_of opening.payloads.items) ≡ Replayed.All b)
+    (rebuilds : replayed (nothing_rebuilt opening.shape) (records_of opening.payloads) ≡ Replayed.All b)
     (honest : IsHonest disk) (past : t0 ≤ disk.calls) (since : Since t0 disk (λ image. image ≡ bytes)) (r : journal.Journal) (is : IsOpened bytes disk opening r) (law : OpeningHolds disk) where
   abbrev first : State
   first = first_of bytes opening.journal b
@@ -130,7 +120,7 @@ module _ (tapes : List (List ℕ)) (t0 : ℕ) (bytes : List ℕ) (disk : Told) (
 -- ---- the store
 
 -- a store that was just opened stands for the first state
-module _ (t0 : ℕ) (bytes : List ℕ) (disk : Told) (s : Inside) (b : Rebuilt) (ps : List Placed) (items : s.history.items ≡ []) where
+module _ (t0 : ℕ) (bytes : List ℕ) (disk : Told) (s : Inside) (b : Rebuilt) (ps : List journal.Record) (items : s.history.items ≡ []) where
   abbrev begin : State
   begin = first_of bytes s.journal b
 

@@ -2,6 +2,7 @@
 
 ghost use Rattle.std.specs.Prelude.{◌≡◌, ◌+◌, ◌-◌, ◌<◌, ◌^◌, ℕ, [], length, slice_get, Some, IsTrue, IfOk, IfErr, OnOk, replicate, None};
 ghost use Rattle.voice_outside.specs.Counters.{HasRisen};
+ghost use Rattle.disk_areas.specs.Areas.{Record};
 ghost use Rattle.voice_journal.specs.Looks.{Since};
 ghost use Rattle.voice_model.specs.State.{State};
 ghost use Rattle.voice_model.specs.Replay.{Rebuilt, nothing_rebuilt};
@@ -19,26 +20,23 @@ use recording_calls::Recordings;
 use recovery::{Parts, ReplayError, replay};
 use std::alloc::Global;
 use std::sync::Arc;
-use voice_journal::{Journal, OpenError, Opened, Placed};
+use voice_journal::{Journal, OpenError, Opened, RecordList};
 use voice_model::Tapes;
 use voice_outside::Disk;
 use voice_units::Shape;
 
 /// The place of a payload's gate on the disk, 0 where there is no such payload.
-fn place_of(payloads: &[Placed], k: u32) -> u64
-    ensures { (one : Placed) → slice_get payloads.now k ≡ Some one → result ≡ one.place }
+fn place_of(payloads: &RecordList, k: u32) -> u64
+    ensures { (one : Record) → slice_get payloads.now k ≡ Some one → result ≡ one.at }
 {
-    match payloads.get(k as usize) {
-        Some(payload) => payload.place,
-        None => 0,
-    }
+    payloads.place(k).unwrap_or(0)
 }
 
 /// The parts that payloads rebuild. One that is refused is damage at its gate's place.
-fn rebuild(alloc: Global, shape: &Shape, payloads: &[Placed]) -> Result<Parts, OpenError>
+fn rebuild(alloc: Global, shape: &Shape, payloads: &RecordList) -> Result<Parts, OpenError>
     requires { length payloads.now < 2 ^ 32 - 1 }
     ensures ok { IfOk result (λ parts. (b : Rebuilt) × (replayed (nothing_rebuilt shape.now) (records_of payloads.now) ≡ Replayed.All b) × Rebuilds parts b) }
-    ensures bad { IfErr result (λ e. (place : ℕ) → e ≡ OpenError.BadDisk place → (k : ℕ) × (replayed (nothing_rebuilt shape.now) (records_of payloads.now) ≡ Replayed.Refused k) × ((one : Placed) → slice_get payloads.now k ≡ Some one → place ≡ one.place)) }
+    ensures bad { IfErr result (λ e. (place : ℕ) → e ≡ OpenError.BadDisk place → (k : ℕ) × (replayed (nothing_rebuilt shape.now) (records_of payloads.now) ≡ Replayed.Refused k) × ((one : Record) → slice_get payloads.now k ≡ Some one → place ≡ one.at)) }
     ensures sound { IfErr result (λ e. ¬ (e ≡ OpenError.DiskFault)) }
 {
     match replay(alloc, shape, payloads) {

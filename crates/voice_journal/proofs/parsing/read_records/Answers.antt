@@ -1,12 +1,12 @@
 use Rattle.std.proofs.Common.{rules, ◌≡◌, ◌+◌, ◌-◌, ◌<◌, ◌≤◌, ℕ, List, [], length, take, drop, refl, sym, ap, ◌∙◌, subst, arith}
-use Rattle.voice_journal.specs.declared.lists.Placed.{Placed}
+use Rattle.voice_journal.specs.declared.lists.Span.{Span}
 use Rattle.voice_journal.proofs.Stepping.{IsReading, begin, ended, refused, gone}
 use Rattle.voice_journal.proofs.parsing.read_records.Goals as goal
 
 pub loop-gate-init : goal.loop-gate-init
 loop-gate-init c =
-    let e : c.new-payloads.result.items ≡ [] = search rules in
-    subst (λ (l : List Placed). IsReading c.args.start c.args.area.now l 16) (sym e) (begin c.args.start c.args.area.now c.requires.size)
+    let e : c.new-spans.result.items ≡ [] = search rules in
+    subst (λ (l : List Span). IsReading c.args.start c.args.area.now l 16) (sym e) (begin c.args.start c.args.area.now c.requires.size)
 
 pub returns-then-rest-le5 : goal.returns-then-rest-le5
 returns-then-rest-le5 c =
@@ -20,13 +20,10 @@ returns-then-len-rest c =
 
 pub loop-gate-preserved : goal.loop-gate-preserved
 loop-gate-preserved c =
-    let area = c.args.area.now in
     let gate = c.loop-gate.gate in
     let n = c.number_4-len.result in
-    let room : gate + 5 + n < length area = omega arith in
-    let size : (gate + 5 + n) - (gate + 5) ≡ n = omega arith in
-    let copied : c.in_ok-bytes.bytes.items ≡ take ((gate + 5 + n) - (gate + 5)) (drop (gate + 5) area) = search rules in
-    gone _ _ _ _ n _ _ _ c.loop-gate.invariant c.loop-gate-test.true c.number_4-len.ensures room refl (copied ∙ ap (λ (k : ℕ). take k (drop (gate + 5) area)) size) (omega arith) c.in_ok-push.ensures.items
+    let room : gate + 5 + n < length c.args.area.now = omega arith in
+    gone _ _ _ _ n _ _ _ c.loop-gate.invariant c.loop-gate-test.true c.number_4-len.ensures room refl (omega arith) c.in_ok-push.ensures.items
 
 pub returns : goal.returns
 returns c = ended _ _ _ _ c.loop-gate.invariant c.loop-gate-test.false

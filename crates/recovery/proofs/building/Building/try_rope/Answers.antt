@@ -6,5 +6,5 @@ use Rattle.recovery.proofs.building.Building.try_rope.Goals as goal
 
 pub returns-clause-done : goal.returns-clause-done
 returns-clause-done c = λ r h s e.
-    let may = told true (may_be_rope r c.args.id c.args.idle c.args.pieces.now) c.add_base_rope.result (c.add_base_rope.ensures.legal r h) e in
-    c.add_base_rope.ensures.done r (changes.Rope c.args.id c.args.idle c.args.pieces.now) h s e (ap (λ b. b && may_be_rope r c.args.id c.args.idle c.args.pieces.now) (eq-eqb r.form 1 (sym h.in_form ∙ c.if-self-ne1.false)) ∙ may) c.requires.grammar refl
+    let may = told true (may_be_rope r c.args.id c.args.idle c.args.pieces.items) c.add_base_rope.result (c.add_base_rope.ensures.legal r h) e in
+    c.add_base_rope.ensures.done r (changes.Rope c.args.id c.args.idle c.args.pieces.items) h s e (ap (λ b. b && may_be_rope r c.args.id c.args.idle c.args.pieces.items) (eq-eqb r.form 1 (sym h.in_form ∙ c.if-self-ne1.false)) ∙ may) c.requires.grammar refl

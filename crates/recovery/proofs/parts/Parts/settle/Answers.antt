@@ -1,6 +1,5 @@
-use Rattle.std.proofs.Common.{◌≡◌, ◌∙◌, ap, sym, cond, ◌==◌, map, eq-eqb}
+use Rattle.std.proofs.Common.{◌≡◌, ◌∙◌, ap, sym, cond, ◌==◌, eq-eqb}
 use Rattle.voice_model.specs.State.{class_number}
-use Rattle.rope_table.specs.Table.{held_back}
 use Rattle.recovery.proofs.Ropes.{not_equal}
 use Rattle.recovery.proofs.Showing.{has_some, has_none}
 use Rattle.recovery.proofs.RopesLeft.{left_as_it_is, left_once}
@@ -21,9 +20,9 @@ returns-clause-ropes c =
       | then-self-eq2 w ↦ w.last-is ∙ w.number_of-last.ensures ∙ sym (ap (λ b. cond b (class_number c.args.class) 0) (eq-eqb old.form 2 w.if-self-eq2.true))
       | else-self-eq2 w ↦ w.last-is ∙ sym (ap (λ b. cond b (class_number c.args.class) 0) (not_equal old.form 2 w.if-self-eq2.false))
     ] in
-    c.keep.ensures.ropes ∙ ap (map (held_back c.args.rope _)) c.set_idle.ensures.ropes
+    c.settle.ensures.ropes
     ∙ left_once old.form c.args.graces.now old.moment (class_number c.args.class) old.interests.rows c.args.rope c.if-self-eq2.last c.wait_after-wait.result
     (has_none c.count.result c.args.rope old.interests.rows c.count.ensures c.if-count-gt0.false) last c.wait_after-wait.ensures old.ropes.ropes
 
 pub returns-clause-counts : goal.returns-clause-counts
-returns-clause-counts c = λ held h. c.keep.ensures.counts held (c.set_idle.ensures.counts held h)
+returns-clause-counts c = c.settle.ensures.counts

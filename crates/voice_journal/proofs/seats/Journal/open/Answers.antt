@@ -1,4 +1,4 @@
-use Rattle.std.proofs.Common.{rules, ◌≡◌, ◌+◌, ◌≤◌, ℕ, List, length, Bool, Some, refl, sym, ap, ◌∙◌, subst, arith}
+use Rattle.std.proofs.Common.{rules, ◌≡◌, ◌+◌, ◌≤◌, ℕ, List, length, take, Bool, Some, refl, sym, ap, ◌∙◌, subst, arith}
 use Rattle.std.specs.Prelude.{IsTrue, not}
 use Rattle.std.proofs.lemmas.List.{with_items_is}
 use Rattle.voice_outside.specs.Disk.{segment}
@@ -6,11 +6,13 @@ use Rattle.disk_areas.specs.Areas.{Journal as Reading}
 use Rattle.disk_areas.specs.Areas.{Records, JournalReading, current_head, journal_in}
 use Rattle.voice_journal.specs.Readings.{Reads, OtherIs, extent}
 use Rattle.voice_journal.specs.Places.{area_start}
+use Rattle.voice_journal.specs.Lent.{lent}
 use Rattle.voice_journal.specs.Parsed.{placed, head_of, IsOther}
 use Rattle.voice_journal.specs.Records.{IsParsed}
 use Rattle.voice_journal.specs.declared.parsing.Parsed.{Parsed}
 use Rattle.voice_journal.specs.declared.parsing.Parsed.TheVariants.{Sound, Broken}
 use Rattle.voice_journal.proofs.Steps.{on_ok}
+use Rattle.voice_journal.proofs.Lending.{lent_front}
 use Rattle.voice_journal.proofs.Areas.{reads_opened, other_opened}
 use Rattle.voice_journal.proofs.Damages.{same_place, stands_not}
 use Rattle.voice_journal.proofs.seats.Journal.open.Goals as goal
@@ -64,16 +66,16 @@ returns-in-Broken-clause-bad g c =
     let found : journal_in bytes ≡ JournalReading.Damaged (area_start shape second + gate) = reads_opened bytes into shape second epoch (Records.Broken gate) fits (c.in_ok-shape.ensures.value honest) head area parsed.0 in
     found ∙ ap (λ (n : ℕ). JournalReading.Damaged n) (ap (λ (n : ℕ). n + gate) (sym c.start_of-start.ensures.value) ∙ there)
 
-pub returns-in-Sound-clause-reads : goal.returns-in-Sound-clause-reads
-returns-in-Sound-clause-reads g c =
+pub returns-in_ok-bytes-in-Sound-clause-reads : goal.returns-in_ok-bytes-in-Sound-clause-reads
+returns-in_ok-bytes-in-Sound-clause-reads g c =
     λ honest.
     let shape = c.in_ok-shape.shape in
     let into = c.read_part.new.into in
     let size : length into ≡ c.in_ok-room.room.len = search rules in
     let len : length into ≡ shape.area = size ∙ c.in_ok-room.ensures.len in
     let area_is : c.deref.result.now ≡ into = c.deref.ensures.value ∙ with_items_is c.in_ok-room.room into size in
-    let parsed : IsParsed c.start_of-start.result into (Sound c.in-Sound.payloads c.in-Sound.gate) =
-    subst (λ (l : List ℕ). IsParsed c.start_of-start.result l (Sound c.in-Sound.payloads c.in-Sound.gate)) area_is (subst (λ (p : Parsed). IsParsed c.start_of-start.result c.deref.result.now p) c.in-Sound.is c.in_ok-gate.ensures) in
+    let parsed : IsParsed c.start_of-start.result into (Sound c.in-Sound.spans c.in-Sound.gate) =
+    subst (λ (l : List ℕ). IsParsed c.start_of-start.result l (Sound c.in-Sound.spans c.in-Sound.gate)) area_is (subst (λ (p : Parsed). IsParsed c.start_of-start.result c.deref.result.now p) c.in-Sound.is c.in_ok-gate.ensures) in
     let disk = c.args.disk.now in
     let bytes = (g.D.Disk.told disk).bytes in
     let second = c.in_ok-current.current.second in
@@ -90,21 +92,26 @@ returns-in-Sound-clause-reads g c =
     let fits : extent shape ≤ length bytes = omega (arith, c.in_ok-shape.ensures.fits, c.read_shape.ensures.looks.size, whole) in
     let head = subst (λ (b : List ℕ). current_head shape b ≡ Some (head_of shape second epoch)) still1.bytes (c.in_ok-current.ensures.value h1) in
     let read = on_ok c.read_part.result _ (sym c.is_err.ensures.value ∙ c.if-is_err.false) (c.read_part.ensures.filled h2) in
-    let lent : length c.deref_mut.result.now ≡ shape.area = search rules in
+    let room_is : length c.deref_mut.result.now ≡ shape.area = search rules in
     let area : into ≡ segment bytes (area_start shape second) shape.area =
-    read ∙ ap (λ (n : ℕ). segment d2.bytes c.start_of-start.result n) lent ∙ ap (λ (a : ℕ). segment d2.bytes a shape.area) c.start_of-start.ensures.value
+    read ∙ ap (λ (n : ℕ). segment d2.bytes c.start_of-start.result n) room_is ∙ ap (λ (a : ℕ). segment d2.bytes a shape.area) c.start_of-start.ensures.value
     ∙ ap (λ (b : List ℕ). segment b (area_start shape second) shape.area) (still2.bytes ∙ still1.bytes) in
     let gate = c.in-Sound.gate in
     let closed = c.in_ok-current.current.is_closed in
     let rs = parsed.0 in
     let are = parsed.1 in
+    let spans = c.in-Sound.spans.items in
+    let copied : c.in_ok-bytes-in-Sound.bytes.items ≡ take gate c.deref-in-Sound.result.now = search rules in
+    let kept : c.in_ok-bytes-in-Sound.bytes.items ≡ take gate into = copied ∙ ap (λ (l : List ℕ). take gate l) (c.deref-in-Sound.ensures.value ∙ with_items_is c.in_ok-room.room into size) in
+    let within = are.within in
+    let same : lent c.in_ok-bytes-in-Sound.bytes.items spans ≡ placed c.start_of-start.result rs = ap (λ (l : List ℕ). lent l spans) kept ∙ lent_front into gate spans are.inside (omega (arith, within)) ∙ are.show in
     let r : Reading = record { shape = shape; start = area_start shape second; epoch = epoch; records = rs; gate = gate } in
     let reads : Reads bytes r = reads_opened bytes into shape second epoch (Records.Sound rs gate) fits (c.in_ok-shape.ensures.value honest) head area are.records in
     let other : OtherIs closed r bytes = other_opened closed r second bytes refl (subst (λ (b : List ℕ). IsOther closed (area_start shape (not second)) b epoch) still1.bytes (c.in_ok-current.ensures.other h1)) in (
       r,
       record {
         reads = reads;
-        payloads = are.show ∙ ap (λ (n : ℕ). placed n rs) c.start_of-start.ensures.value;
+        payloads = same ∙ ap (λ (n : ℕ). placed n rs) c.start_of-start.ensures.value;
         stands = record {
           at = record { shape_is = refl; start = refl; epoch = refl; gate = refl };
           sure = refl;
@@ -116,8 +123,8 @@ returns-in-Sound-clause-reads g c =
 pub returns-in-Broken-clause-damaged : goal.returns-in-Broken-clause-damaged
 returns-in-Broken-clause-damaged g c = λ honest place is. same_place _ place (sym (returns-in-Broken-clause-bad g c honest _ refl) ∙ is)
 
-pub returns-in-Sound-clause-damaged : goal.returns-in-Sound-clause-damaged
-returns-in-Sound-clause-damaged g c =
+pub returns-in_ok-bytes-in-Sound-clause-damaged : goal.returns-in_ok-bytes-in-Sound-clause-damaged
+returns-in_ok-bytes-in-Sound-clause-damaged g c =
     λ honest place is.
-    let opened = returns-in-Sound-clause-reads g c honest in
+    let opened = returns-in_ok-bytes-in-Sound-clause-reads g c honest in
     absurd (stands_not opened.0 place (sym opened.1.reads ∙ is))

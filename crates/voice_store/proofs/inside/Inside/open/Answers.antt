@@ -1,6 +1,6 @@
 use Rattle.std.proofs.Common.{rules, ◌≡◌, ◌+◌, [], Bool, List, IsTrue, refl, sym, ◌∙◌, ap, subst}
 use Rattle.std.specs.Prelude.{slice_get}
-use Rattle.voice_journal.specs.declared.lists.Placed.{Placed}
+use Rattle.disk_areas.specs.Areas.{Record}
 use Rattle.voice_journal.specs.declared.opening.Opened.{Opened}
 use Rattle.voice_model.specs.Replay.{nothing_rebuilt}
 use Rattle.voice_model.specs.Image.{Replayed, replayed}
@@ -34,14 +34,12 @@ returns-in_err-parts-clause-bad g c =
     let new = g.D.Disk.told c.open.new.disk in
     let opening : Opened = c.in_ok-shape.field-0 in
     let p = err_from_is_err_and c.from_residual-in_err-parts.result c.from_residual-in_err-parts.ensures.1 in
-    let payloads : c.deref.result.now ≡ opening.payloads.items = search rules in
     rw (p.1, p.2)
     (λ place is honest.
     let refused = c.in_err-parts.ensures.bad place is in
     let reads = c.in_ok-shape.ensures.reads honest in
     refused_place old.bytes new opening reads.0 reads.1 c.in_ok-shape.ensures.same refused.0 place
-    (ap (λ (l : List Placed). replayed (nothing_rebuilt opening.shape) (records_of l)) (sym payloads) ∙ refused.1)
-    (λ one at. refused.2 one (ap (λ (l : List Placed). slice_get l refused.0) payloads ∙ at)))
+    refused.1 refused.2)
 
 -- src/opening.rt:63:5
 pub returns-clause-state : goal.returns-clause-state
@@ -57,11 +55,9 @@ returns-clause-state g c =
     let b = c.in_ok-parts.ensures.ok.0 in
     let tables = c.in_ok-parts.ensures.ok.2 in
     let same = facts.same in
-    let payloads : c.deref.result.now ≡ opening.payloads.items = search rules in
-    let rebuilds : replayed (nothing_rebuilt opening.shape) (records_of opening.payloads.items) ≡ Replayed.All b =
-    ap (λ (l : List Placed). replayed (nothing_rebuilt opening.shape) (records_of l)) (sym payloads) ∙ c.in_ok-parts.ensures.ok.1 in
-    let here : replayed (nothing_rebuilt opening.journal.shape) (records_of opening.payloads.items) ≡ Replayed.All b =
-    ap (λ (x : Shape). replayed (nothing_rebuilt x) (records_of opening.payloads.items)) same ∙ rebuilds in
+    let rebuilds : replayed (nothing_rebuilt opening.shape) (records_of opening.payloads) ≡ Replayed.All b = c.in_ok-parts.ensures.ok.1 in
+    let here : replayed (nothing_rebuilt opening.journal.shape) (records_of opening.payloads) ≡ Replayed.All b =
+    ap (λ (x : Shape). replayed (nothing_rebuilt x) (records_of opening.payloads)) same ∙ rebuilds in
     let items : c.new-3.result.items ≡ [] = search rules in
     let from : 16 ≤ opening.journal.seat.gate = search rules in
     let within : opening.journal.seat.gate < opening.journal.shape.area = search rules in
@@ -71,7 +67,7 @@ returns-clause-state g c =
     let s : Inside = record { alloc = c.args.alloc; tapes = c.args.tapes; journal = opening.journal; parts = c.in_ok-parts.parts; lanes = c.in-Ok.lanes; made = 0; recordings = c.in-Ok-new.recordings; doubt = None; history = c.new-3.result } in
     let t0 = old.calls + 1 in (
       first_of old.bytes opening.journal b,
-      stood_first t0 old.bytes new s b opening.payloads.items items here tables refl facts.sure from within facts.moment size
+      stood_first t0 old.bytes new s b opening.payloads items here tables refl facts.sure from within facts.moment size
           (λ h. let honest = to_old h in let reads = facts.reads honest in
           first_held (tapes_of s) t0 old.bytes new opening b same rebuilds (honest_now honest) facts.moment (facts.since honest) reads.0 reads.1 law)
           (λ h. (looks.still (to_old h)).bytes)
