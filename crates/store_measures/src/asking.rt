@@ -1,10 +1,10 @@
-//! Calls on rows, on the moment and of sweeps, as the number of rows grows.
+//! Calls on rows, on the moment and of sweeps, as the number of rows grows, and edits, as that of ropes grows.
 
 ghost use Rattle.std.specs.Prelude.{◌≡◌, IfSome, true};
 ghost use Rattle.voice_model.specs.Spelling.{is_key};
 
 use crate::images::{Contents, LATER, disk_with, image};
-use crate::stores::{ask, let_go, no_tapes, open_store};
+use crate::stores::{ask, cut, let_go, no_tapes, open_store};
 use bench_report::disks::shape_of;
 use bench_report::report::middle;
 use std::alloc::Global;
@@ -24,9 +24,15 @@ const CALLS: u32 = 25;
 // The area of the journal, in which the records of all calls fit behind one another: no switch is timed.
 const AREA: u32 = 4 << 20;
 
+// An edit has so many blocks, of so many samples each.
+const BLOCKS: u32 = 1_000;
+
+const BLOCK: u32 = 8;
+
 // What is asked.
 #[derive(Clone, Copy)]
 enum Kind {
+    Edit,
     Retain,
     ForgetLast,
     ForgetFirst,
@@ -84,7 +90,7 @@ fn sweep<D: Disk>(store: &mut Store<D>) -> bool {
     ask(store, Call::Sweep(100))
 }
 
-// The call of this number of a kind, where there were so many rows at first.
+// The call of this number of a kind, where there were so many rows at first. An edit leaves out the first and the last sample of rope 1.
 fn ask_kind<D: Disk>(
     alloc: Global,
     store: &mut Store<D>,
@@ -93,6 +99,7 @@ fn ask_kind<D: Disk>(
     number: u32,
 ) -> bool {
     match kind {
+        Kind::Edit => cut(store, RopeId(1), 1, BLOCK * BLOCKS - 2),
         Kind::Retain => retain(
             store,
             Class::Until,
@@ -211,17 +218,53 @@ fn measure_disk<R: Print + Clock>(
 // A disk with so many rows.
 fn disk_of(alloc: Global, rows: u32) -> io::Result<MemDisk> {
     let shape = shape_of(4096, 16, AREA)?;
-    let image = image(alloc, &shape, Contents { ropes: 0, rows })?;
+    let contents = Contents {
+        blocks: 1,
+        ropes: 0,
+        rows,
+    };
+    let image = image(alloc, &shape, contents)?;
     disk_with(alloc, &image)
 }
 
-fn measure_at<R: Print + Clock>(rt: &R, alloc: Global, rows: u32) -> io::Result<()> {
-    let tapes = no_tapes(alloc)?;
-    let disk = disk_of(alloc, rows)?;
-    measure_disk(rt, alloc, disk, tapes, rows)
+// A disk with so many ropes, the first of so many blocks as an edit has.
+fn disk_of_ropes(alloc: Global, ropes: u32) -> io::Result<MemDisk> {
+    let shape = shape_of(BLOCK, BLOCKS, AREA)?;
+    let contents = Contents {
+        blocks: BLOCKS,
+        ropes,
+        rows: 0,
+    };
+    let image = image(alloc, &shape, contents)?;
+    disk_with(alloc, &image)
 }
 
-/// Prints what a call of each kind costs over a disk in memory, by the number of rows, which are of class Until and do not expire.
+fn measure_edits<R: Print + Clock>(
+    rt: &R,
+    alloc: Global,
+    disk: MemDisk,
+    tapes: Arc<Tapes, Global>,
+    ropes: u32,
+) -> io::Result<()> {
+    let Some(mut store) = open_store(alloc, disk, tapes) else {
+        return Err(io::Error::from(ErrorKind::InvalidData));
+    };
+    let timed = time_kind(rt, alloc, &mut store, ropes, Kind::Edit);
+    let_go(store);
+    let edit = timed?;
+    println!(rt; "{ropes} ropes: an edit of {BLOCKS} blocks {edit} ns")
+}
+
+fn measure_at<R: Print + Clock>(rt: &R, alloc: Global, count: u32) -> io::Result<()> {
+    let tapes = no_tapes(alloc)?;
+    let disk = disk_of(alloc, count)?;
+    measure_disk(rt, alloc, disk, tapes, count)?;
+    let tapes = no_tapes(alloc)?;
+    let disk = disk_of_ropes(alloc, count)?;
+    measure_edits(rt, alloc, disk, tapes, count)
+}
+
+/// Prints what a call of each kind costs over a disk in memory, by the number of rows, which are of class Until and do not expire, and an edit by the number of ropes.
 pub fn measure<R: Print + Clock + AllocGlobal>(rt: &R) -> io::Result<()> {
     measure_at(rt, rt.alloc(), 100)?;
     measure_at(rt, rt.alloc(), 1_000)?;

@@ -41,7 +41,11 @@ const THREE_PIECES: usize = 59;
 const FRAME: usize = 5;
 
 // Rope 1 is a recording, and rope 2 a part of it.
-const CONTENTS: Contents = Contents { ropes: 1, rows: 0 };
+const CONTENTS: Contents = Contents {
+    blocks: 1,
+    ropes: 1,
+    rows: 0,
+};
 
 // Makes a pair of edits: a part of rope 1, and rope 1 with rope 2 in place of a part.
 fn edit_pair<D: Disk>(store: &mut Store<D>, number: u32) -> bool {

@@ -26,6 +26,7 @@ fn time_middle<R: Clock>(rt: &R, alloc: Global, image: &[u8], ropes: u32) -> io:
 fn measure_at<R: Print + Clock>(rt: &R, alloc: Global, pairs: u32) -> io::Result<()> {
     let shape = shape_of(4096, 16, AREA)?;
     let contents = Contents {
+        blocks: 1,
         ropes: pairs,
         rows: pairs,
     };

@@ -15,17 +15,25 @@ use voice_units::Shape;
 /// A moment that no measurement reaches: no row of class Until expires before it.
 pub const LATER: u64 = 1 << 39;
 
-/// What a measured disk holds besides rope 1, which is a recording of 4,096 samples: so many ropes of eight samples of it, with the numbers from 2 on, and so many rows of class Until for it, whose keys spell the numbers from 0 on in four bytes. They come by turns.
+/// What a measured disk holds: rope 1, which is a recording that fills so many blocks, so many ropes of eight samples of it, with the numbers from 2 on, and so many rows of class Until for it, whose keys spell the numbers from 0 on in four bytes. Ropes and rows come by turns.
 #[derive(Clone, Copy)]
 pub struct Contents {
+    pub blocks: u32,
     pub ropes: u32,
     pub rows: u32,
 }
 
-// The change that makes rope 1, a recording in the first block.
-const RECORDING: [u8; 21] = [
-    11, 0, 0, 0, 0, 0, 0, 0, 1, 0, 0, 0x10, 0, 0, 0, 0, 1, 0, 0, 0, 0,
-];
+// The change that makes rope 1, a recording that fills the first blocks of these sizes.
+fn recording_change(alloc: Global, block: u32, blocks: u32) -> Result<Vec<u8>, AllocError> {
+    let mut change = Vec::new(alloc);
+    change.extend_from_slice(&[11, 0, 0, 0, 0, 0, 0, 0, 1])?;
+    change.extend_from_slice(&block.saturating_mul(blocks).to_be_bytes())?;
+    change.extend_from_slice(&blocks.to_be_bytes())?;
+    for address in 0..blocks {
+        change.extend_from_slice(&address.to_be_bytes())?;
+    }
+    Ok(change)
+}
 
 // The change that makes a rope: eight samples of rope 1, from a place on.
 fn rope_change(id: u32, from: u32) -> [u8; 27] {
@@ -88,8 +96,17 @@ fn append_both<D: Disk>(
 }
 
 // Whether all contents were appended.
-fn append_all<D: Disk>(disk: &mut D, journal: &mut Journal, contents: Contents) -> bool {
-    let mut is_whole = append(disk, journal, &RECORDING);
+fn append_all<D: Disk>(
+    alloc: Global,
+    disk: &mut D,
+    journal: &mut Journal,
+    contents: Contents,
+) -> bool {
+    let block = journal.shape().block;
+    let Ok(recording) = recording_change(alloc, block, contents.blocks) else {
+        return false;
+    };
+    let mut is_whole = append(disk, journal, &recording);
     for number in 0..contents.ropes.max(contents.rows) {
         is_whole &= append_both(disk, journal, contents, number);
     }
@@ -99,7 +116,7 @@ fn append_all<D: Disk>(disk: &mut D, journal: &mut Journal, contents: Contents) 
 // Appends all contents to the journal of a disk that was just formatted.
 fn fill_formatted<D: Disk>(alloc: Global, disk: &mut D, contents: Contents) -> bool {
     match Journal::open(alloc, disk) {
-        Ok(mut opened) => append_all(disk, &mut opened.journal, contents),
+        Ok(mut opened) => append_all(alloc, disk, &mut opened.journal, contents),
         Err(_) => false,
     }
 }

@@ -138,6 +138,7 @@ fn measure_image<R: Print + Clock>(rt: &R, alloc: Global, image: &[u8]) -> io::R
 pub fn measure<R: Print + Clock + AllocGlobal>(rt: &R) -> io::Result<()> {
     let shape = shape_of(4096, 16, AREA)?;
     let contents = Contents {
+        blocks: 1,
         ropes: ROPES - 1,
         rows: 0,
     };

@@ -83,7 +83,12 @@ fn measure_turns<R: Print + Clock + Threads + Wait + Sync>(
     alloc: Global,
 ) -> io::Result<()> {
     let shape = shape_of(4096, 16, 4096)?;
-    let image = image(alloc, &shape, Contents { ropes: 0, rows: 0 })?;
+    let contents = Contents {
+        blocks: 1,
+        ropes: 0,
+        rows: 0,
+    };
+    let image = image(alloc, &shape, contents)?;
     measure_image(rt, alloc, &image)
 }
 

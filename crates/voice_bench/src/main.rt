@@ -27,7 +27,7 @@ voice_bench MEASUREMENT: prints figures of this machine.
   record   recording 1 MiB in memory, against bare calls
   parts    a recording of 48 MiB in parts to a file of this folder, against its writes and a sync
   plays    plays of 48 MiB out of 4,096 pieces, against plain reads, and Feeds by their place
-  calls    calls on rows, on the moment and of sweeps, by the number of rows
+  calls    calls on rows, on the moment and of sweeps, by the number of rows, and edits by that of ropes
   turns    calls through a server with 1, 2, 4 and 16 callers on threads, against the store alone
   players  samples a second that 16 players on 16 threads hear while two of them also record and sweep, and one alone
   all      each of these
