@@ -2,7 +2,6 @@ pub mod Answers
 pub mod Appended
 pub mod Complete
 pub mod CompleteKinds
-pub mod Digits
 pub mod Reading
 pub mod Joined
 pub mod Numbers

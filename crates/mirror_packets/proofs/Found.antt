@@ -4,7 +4,7 @@ use Rattle.disk_areas.specs.Numbers.{number_at}
 use Rattle.voice_model.specs.Spelling.{change_in, Spells}
 use Rattle.voice_model.specs.declared.changes.Change.{Change}
 use Rattle.voice_model.proofs.ReadAgain.{spelled_is_read}
-use Rattle.change_codec.proofs.Digits.{rest_is}
+use Rattle.disk_areas.proofs.Digits.{rest_is}
 use Rattle.mirror_packets.specs.Packets.{Body, Reading, is_followed, brought, numbered, body_in, packet_in, end_of, reading_of}
 use Rattle.std.specs.Prelude.{option_map, ◌==◌}
 use Rattle.std.proofs.lemmas.Bool.Decides.{nat_tests}

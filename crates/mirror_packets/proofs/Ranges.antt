@@ -4,7 +4,7 @@ use Rattle.std.specs.Prelude.{nat_le, ◌==◌}
 use Rattle.std.proofs.lemmas.Bool.Decides.{nat_tests}
 use Rattle.disk_areas.specs.Numbers.{number_at}
 use Rattle.voice_model.specs.Spelling.{is_id, change_in}
-use Rattle.change_codec.proofs.Digits.{rest_is}
+use Rattle.disk_areas.proofs.Digits.{rest_is}
 use Rattle.mirror_packets.specs.Packets.{Body, voice_in, brought, body_in, is_head, end_of}
 use Rattle.mirror_packets.specs.Shown.{IsEnd}
 

@@ -11,7 +11,7 @@ use Rattle.voice_journal.specs.Places.{area_start}
 use Rattle.voice_journal.specs.Parsed.{head_of, IsOther}
 use Rattle.voice_journal.proofs.Segments.{segment_shifted, get_or-segment}
 use Rattle.voice_journal.proofs.Slices.{segment_is, length-segment}
-use Rattle.voice_journal.proofs.Digits.{rest_is}
+use Rattle.disk_areas.proofs.Digits.{rest_is}
 
 area_records : (image area : List ℕ) (start n : ℕ) → start + n ≤ length image → 16 ≤ n → area ≡ segment image start n → slice image (start + 16) (n - 16) ≡ drop 16 area
 area_records image area start n fits low is =

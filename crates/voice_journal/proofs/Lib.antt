@@ -1,4 +1,3 @@
-pub mod Digits
 pub mod Segments
 pub mod Slices
 pub mod Fronts

@@ -1,5 +1,5 @@
 use Rattle.std.proofs.Common.{rules, ◌≡◌, ◌∷◌, [], length, replicate, refl, sym, ◌∙◌}
-use Rattle.voice_journal.proofs.Digits.{take_all}
+use Rattle.disk_areas.proofs.Digits.{take_all}
 use Rattle.voice_journal.proofs.Putting.{put_next}
 use Rattle.voice_journal.proofs.formatting.first_bytes.Goals as goal
 

@@ -2,7 +2,7 @@ use Rattle.std.proofs.Common.{rules, ◌≡◌, ◌++◌, length, take, Bool, fa
 use Rattle.std.specs.Prelude.{◌==◌}
 use Rattle.std.proofs.lemmas.Bool.{ne_eqb}
 use Rattle.disk_areas.specs.Areas.{graces_by_class}
-use Rattle.voice_journal.proofs.Digits.{take_all}
+use Rattle.disk_areas.proofs.Digits.{take_all}
 use Rattle.voice_journal.proofs.Putting.{put_first, put_next}
 use Rattle.voice_journal.proofs.superblocks.end_bytes.Goals as goal
 

@@ -1,4 +1,4 @@
--- The numbers of byteorder are those of the image.
+-- The numbers of byteorder are those of an image.
 use Rattle.std.proofs.Common.{◌≡◌, ℕ, zero, suc, ◌+◌, ◌-◌, ◌≤◌, List, [], ◌∷◌, length, drop, take, refl, ap, ◌∙◌, arith, length-drop}
 use Rattle.byteorder.specs.Endian.{big_number}
 use Rattle.disk_areas.specs.Numbers.{spelled_number, number_at}

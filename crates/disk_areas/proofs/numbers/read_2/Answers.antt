@@ -1,7 +1,7 @@
 use Rattle.std.proofs.Common.{◌≡◌, ◌∙◌, ◌-◌, length, take, drop}
 use Rattle.byteorder.specs.Endian.{big_number}
-use Rattle.change_codec.proofs.Digits.{big_2}
-use Rattle.change_codec.proofs.fields.read_2.Goals as goal
+use Rattle.disk_areas.proofs.Digits.{big_2}
+use Rattle.disk_areas.proofs.numbers.read_2.Goals as goal
 
 pub returns : goal.returns
 returns c =

@@ -1,9 +1,0 @@
-use Rattle.std.proofs.Common.{◌≡◌, ◌∙◌, ◌-◌, length, take, drop}
-use Rattle.byteorder.specs.Endian.{big_number}
-use Rattle.change_codec.proofs.Digits.{big_4}
-use Rattle.change_codec.proofs.fields.read_4.Goals as goal
-
-pub returns : goal.returns
-returns c =
-    let seen : c.read_u32.result ≡ big_number 4 (take (length c.args.bytes.now - c.args.at) (drop c.args.at c.args.bytes.now)) = c.read_u32.ensures in
-    seen ∙ big_4 c.args.at c.args.bytes.now c.requires

@@ -1,9 +1,0 @@
-use Rattle.std.proofs.Common.{◌≡◌, ◌∙◌, ◌-◌, length, take, drop}
-use Rattle.byteorder.specs.Endian.{big_number}
-use Rattle.change_codec.proofs.Digits.{big_8}
-use Rattle.change_codec.proofs.fields.read_8.Goals as goal
-
-pub returns : goal.returns
-returns c =
-    let seen : c.read_u64.result ≡ big_number 8 (take (length c.args.bytes.now - c.args.at) (drop c.args.at c.args.bytes.now)) = c.read_u64.ensures in
-    seen ∙ big_8 c.args.at c.args.bytes.now c.requires
