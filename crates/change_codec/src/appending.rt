@@ -6,7 +6,7 @@ ghost use Rattle.disk_areas.specs.Numbers.{number_bytes};
 ghost use Rattle.voice_model.specs.Spelling.{piece_bytes, pieces_bytes, text_bytes, pair_bytes, fits, is_key};
 ghost use Rattle.change_codec.specs.Widths.{bytes_of};
 
-use byteorder::{BigEndian, ByteOrder};
+use disk_areas::{append, append_1, append_2, append_4, append_8};
 use voice_model::{Key, Pair};
 use voice_units::{Moment, Piece, RopeId};
 
@@ -17,57 +17,6 @@ pub enum Width {
     Narrow,
     /// 4 bytes, in form 2.
     Wide,
-}
-
-// Appends bytes.
-pub fn append(out: &mut Vec<u8>, bytes: &[u8])
-    requires room { length out.old.items + length bytes.now ≤ vec_capacity out.old }
-    ensures items { out.new.items ≡ out.old.items ++ bytes.now }
-    ensures capacity { vec_capacity out.old ≤ vec_capacity out.new }
-{
-    let _ = out.extend_from_slice(bytes);
-}
-
-// Appends a number in one byte.
-pub fn append_1(out: &mut Vec<u8>, n: u8)
-    requires room { length out.old.items + 1 ≤ vec_capacity out.old }
-    ensures items { out.new.items ≡ out.old.items ++ number_bytes 1 n }
-    ensures capacity { vec_capacity out.old ≤ vec_capacity out.new }
-{
-    append(out, &[n]);
-}
-
-// Appends a number in two bytes.
-pub fn append_2(out: &mut Vec<u8>, n: u16)
-    requires room { length out.old.items + 2 ≤ vec_capacity out.old }
-    ensures items { out.new.items ≡ out.old.items ++ number_bytes 2 n }
-    ensures capacity { vec_capacity out.old ≤ vec_capacity out.new }
-{
-    let mut bytes = [0; 2];
-    BigEndian::write_u16(&mut bytes, n);
-    append(out, &bytes);
-}
-
-// Appends a number in four bytes.
-pub fn append_4(out: &mut Vec<u8>, n: u32)
-    requires room { length out.old.items + 4 ≤ vec_capacity out.old }
-    ensures items { out.new.items ≡ out.old.items ++ number_bytes 4 n }
-    ensures capacity { vec_capacity out.old ≤ vec_capacity out.new }
-{
-    let mut bytes = [0; 4];
-    BigEndian::write_u32(&mut bytes, n);
-    append(out, &bytes);
-}
-
-// Appends a number in eight bytes.
-pub fn append_8(out: &mut Vec<u8>, n: u64)
-    requires room { length out.old.items + 8 ≤ vec_capacity out.old }
-    ensures items { out.new.items ≡ out.old.items ++ number_bytes 8 n }
-    ensures capacity { vec_capacity out.old ≤ vec_capacity out.new }
-{
-    let mut bytes = [0; 8];
-    BigEndian::write_u64(&mut bytes, n);
-    append(out, &bytes);
 }
 
 // Appends the number of a rope or of a voice file.

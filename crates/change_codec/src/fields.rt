@@ -6,7 +6,7 @@ ghost use Rattle.disk_areas.specs.Numbers.{number_at};
 ghost use Rattle.change_codec.specs.Refused.{number, part, behind, IsPlace};
 
 use super::errors::GetError;
-use byteorder::{BigEndian, ByteOrder};
+use disk_areas::{read_2, read_4, read_8};
 use voice_units::{Moment, RopeId};
 
 // The number in the byte at a place.
@@ -15,30 +15,6 @@ fn read_1(bytes: &[u8], at: usize) -> u8
     ensures { result ≡ number_at 1 at bytes.now }
 {
     bytes[at]
-}
-
-// The number in the 2 bytes from a place on.
-pub fn read_2(bytes: &[u8], at: usize) -> u16
-    requires { at + 2 ≤ length bytes.now }
-    ensures { result ≡ number_at 2 at bytes.now }
-{
-    BigEndian::read_u16(&bytes[at..])
-}
-
-// The number in the 4 bytes from a place on.
-pub fn read_4(bytes: &[u8], at: usize) -> u32
-    requires { at + 4 ≤ length bytes.now }
-    ensures { result ≡ number_at 4 at bytes.now }
-{
-    BigEndian::read_u32(&bytes[at..])
-}
-
-// The number in the 8 bytes from a place on.
-fn read_8(bytes: &[u8], at: usize) -> u64
-    requires { at + 8 ≤ length bytes.now }
-    ensures { result ≡ number_at 8 at bytes.now }
-{
-    BigEndian::read_u64(&bytes[at..])
 }
 
 // Tests that n bytes stand from a place on.

@@ -8,7 +8,8 @@ ghost use Rattle.change_codec.specs.Said.{pair_in, key_in, address_values, id_va
 
 use super::appending::Width;
 use super::errors::GetError;
-use super::fields::{end_at, id_at, number_1, number_2, number_4, part_at, read_2, read_4};
+use super::fields::{end_at, id_at, number_1, number_2, number_4, part_at};
+use disk_areas::{read_2, read_4};
 use std::alloc::Global;
 use voice_model::{AddressList, Key, KeyList, Pair, PairList, PieceList, RopeList};
 use voice_units::{Piece, RopeId};

@@ -7,9 +7,10 @@ ghost use Rattle.voice_model.specs.Spelling.{spelling, keeps_grammar, recorded_b
 ghost use Rattle.change_codec.specs.Widths.{bytes_of};
 
 use super::appending::{
-    Width, append_1, append_2, append_4, append_8, append_addresses, append_id, append_ids,
-    append_keys, append_moment, append_pairs, append_pieces, append_text,
+    Width, append_addresses, append_id, append_ids, append_keys, append_moment, append_pairs,
+    append_pieces, append_text,
 };
+use disk_areas::{append_1, append_2, append_4, append_8};
 use voice_model::{Change, Class, Key, Pair};
 use voice_units::{NoMemory, Piece, RopeId};
 

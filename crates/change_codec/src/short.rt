@@ -6,7 +6,7 @@ ghost use Rattle.voice_model.specs.declared.changes.Change.TheVariants as change
 
 use super::putting::number_of;
 use arrayvec::ArrayVec;
-use byteorder::{BigEndian, ByteOrder};
+use disk_areas::eight_bytes;
 use voice_model::{Class, Key};
 use voice_units::Moment;
 
@@ -30,10 +30,8 @@ pub fn forgotten_bytes(class: Class, key: &Key) -> ArrayVec<u8, SHORT>
 pub fn advanced_bytes(moment: Moment) -> ArrayVec<u8, SHORT>
     ensures { result.items ≡ spelling (changes.Advanced moment) }
 {
-    let mut number = [0; 8];
-    BigEndian::write_u64(&mut number, moment.number());
     let mut bytes = ArrayVec::new();
     bytes.push(7);
-    let _ = bytes.try_extend_from_slice(&number);
+    let _ = bytes.try_extend_from_slice(&eight_bytes(moment.number()));
     bytes
 }

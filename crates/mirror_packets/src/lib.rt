@@ -4,7 +4,6 @@
 #![tactic(auto)]
 
 mod errors;
-mod fields;
 pub mod laws;
 mod packets;
 mod putting;

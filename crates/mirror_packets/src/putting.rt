@@ -4,9 +4,9 @@ ghost use Rattle.std.specs.Prelude.{◌≡◌, ◌+◌, ◌≤◌, ◌++◌, len
 ghost use Rattle.mirror_packets.specs.Packets.{body_spelling, packet_spelling, IsGoodBody, IsGoodPacket};
 ghost use Rattle.mirror_packets.specs.Shown.{body_of, packet_of};
 
-use crate::fields::{append, append_4, append_8};
 use crate::{Body, Packet};
 use change_codec::size;
+use disk_areas::{append, append_4, append_8};
 use voice_units::NoMemory;
 
 // How many bytes spell a body.

@@ -5,9 +5,9 @@ ghost use Rattle.voice_model.specs.Spelling.{change_in};
 ghost use Rattle.mirror_packets.specs.Packets.{is_followed, voice_in, brought, body_in, is_head, end_of, reading_of, Reading, AreSpelled};
 ghost use Rattle.mirror_packets.specs.Shown.{body_of, packets_of, IsHead, IsFound, IsNoPacket, IsBad};
 
-use crate::fields::{read_4, read_8};
 use crate::{Body, Packet, PacketError};
 use change_codec::{GetError, get};
+use disk_areas::{read_4, read_8};
 use std::alloc::Global;
 use voice_model::Change;
 use voice_units::{NoMemory, RopeId};

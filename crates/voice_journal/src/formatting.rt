@@ -8,8 +8,9 @@ ghost use Rattle.voice_journal.specs.Formatted.{IsFormatted, SameButHeads};
 
 use crate::device::write_synced;
 use crate::seats::{Journal, start_of};
-use crate::spelling::{eight_bytes, put_at};
+use crate::spelling::put_at;
 use crate::superblocks::put_superblock;
+use disk_areas::eight_bytes;
 use voice_outside::Disk;
 use voice_units::{Failed, Shape};
 

@@ -7,7 +7,7 @@ ghost use Rattle.disk_areas.specs.Areas.{is_head, current_head};
 ghost use Rattle.voice_journal.specs.Places.{area_start};
 ghost use Rattle.voice_journal.specs.Parsed.{HasHeads, head_of, IsOther};
 
-use crate::numbers::number_8;
+use disk_areas::read_8;
 
 // The current area, its epoch, and whether the other area's head is closed.
 #[derive(Clone, Copy)]
@@ -25,7 +25,7 @@ fn head_epoch(bytes: &[u8; 16]) -> Option<u64>
     if bytes[0] != 1 {
         return None;
     }
-    let epoch = number_8(bytes, 8);
+    let epoch = read_8(bytes, 8);
     if epoch < 1 {
         return None;
     }

@@ -9,7 +9,6 @@ mod gates;
 mod heads;
 pub mod laws;
 mod lists;
-mod numbers;
 mod opening;
 mod parsing;
 mod seats;

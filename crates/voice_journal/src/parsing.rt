@@ -4,7 +4,7 @@ ghost use Rattle.std.specs.Prelude.{◌≡◌, ◌+◌, ◌<◌, ◌≤◌, ◌^
 ghost use Rattle.voice_journal.specs.Records.{IsParsed};
 
 use crate::lists::Span;
-use crate::numbers::number_4;
+use disk_areas::read_4;
 use std::alloc::{AllocError, Global};
 
 // Where the payloads of an area lie in it, and the gate behind them, or the gate of the first record whose length breaks the condition.
@@ -28,7 +28,7 @@ pub fn read_records(alloc: Global, area: &[u8], start: u64) -> Result<Parsed, Al
         if rest <= 5 {
             return Ok(Parsed::Broken(gate));
         }
-        let len = number_4(area, gate + 1) as usize;
+        let len = read_4(area, gate + 1) as usize;
         if len >= rest - 5 {
             return Ok(Parsed::Broken(gate));
         }

@@ -6,7 +6,7 @@ ghost use Rattle.voice_journal.specs.Readings.{frame, frames, framed_size, views
 ghost use Rattle.voice_journal.specs.Spelled.{area_bytes};
 
 use crate::lists::Payloads;
-use byteorder::{BigEndian, ByteOrder};
+use disk_areas::{eight_bytes, four_bytes};
 
 // Puts bytes over those that are there.
 pub fn put_at(bytes: &mut [u8], at: usize, from: &[u8])
@@ -15,34 +15,6 @@ pub fn put_at(bytes: &mut [u8], at: usize, from: &[u8])
 {
     let end = at + from.len();
     bytes[at..end].copy_from_slice(from);
-}
-
-// The two bytes of a number.
-pub fn two_bytes(n: u16) -> [u8; 2]
-    ensures { result ≡ number_bytes 2 n }
-{
-    let mut bytes = [0; 2];
-    BigEndian::write_u16(&mut bytes, n);
-    bytes
-}
-
-// The four bytes of a number.
-pub fn four_bytes(n: u32) -> [u8; 4]
-    ensures value { result ≡ number_bytes 4 n }
-    ensures fits { n < 2 ^ 32 }
-{
-    let mut bytes = [0; 4];
-    BigEndian::write_u32(&mut bytes, n);
-    bytes
-}
-
-// The eight bytes of a number.
-pub fn eight_bytes(n: u64) -> [u8; 8]
-    ensures { result ≡ number_bytes 8 n }
-{
-    let mut bytes = [0; 8];
-    BigEndian::write_u64(&mut bytes, n);
-    bytes
 }
 
 // Puts a record's length and payload at a place, and a closed gate behind them.

@@ -7,8 +7,8 @@ ghost use Rattle.voice_journal.specs.Readings.{extent};
 ghost use Rattle.voice_journal.specs.Parsed.{IsSuperblock, IsDamage};
 ghost use Rattle.voice_journal.specs.Spelled.{AreSpellable};
 
-use crate::numbers::{number_2, number_4};
-use crate::spelling::{four_bytes, put_at, two_bytes};
+use crate::spelling::put_at;
+use disk_areas::{four_bytes, read_2, read_4, two_bytes};
 use voice_units::{Graces, Shape};
 
 const MAGIC: [u8; 8] = [86, 79, 73, 67, 68, 73, 83, 75];
@@ -17,7 +17,7 @@ const MAGIC: [u8; 8] = [86, 79, 73, 67, 68, 73, 83, 75];
 fn read_graces(bytes: &[u8; 64], version: u32) -> Graces
     ensures { result ≡ graces_in version bytes.now }
 {
-    let common = number_4(bytes, 24);
+    let common = read_4(bytes, 24);
     if version == 1 {
         return Graces {
             common,
@@ -28,9 +28,9 @@ fn read_graces(bytes: &[u8; 64], version: u32) -> Graces
     }
     Graces {
         common,
-        held: number_4(bytes, 30),
-        until: number_4(bytes, 34),
-        listed: number_4(bytes, 38),
+        held: read_4(bytes, 30),
+        until: read_4(bytes, 34),
+        listed: read_4(bytes, 38),
     }
 }
 
@@ -57,17 +57,17 @@ pub fn read_superblock(bytes: &[u8; 64], size: u64) -> Result<Shape, u64>
     if &bytes[..8] != MAGIC.as_slice() {
         return Err(0);
     }
-    let version = number_4(bytes, 8);
+    let version = read_4(bytes, 8);
     if version != 1 && version != 2 {
         return Err(8);
     }
     let graces = read_graces(bytes, version);
-    let lanes = u32::from(number_2(bytes, 28));
+    let lanes = u32::from(read_2(bytes, 28));
     let Ok(shape) = Shape::new(
         version,
-        number_4(bytes, 12),
-        number_4(bytes, 16),
-        number_4(bytes, 20),
+        read_4(bytes, 12),
+        read_4(bytes, 16),
+        read_4(bytes, 20),
         graces,
         lanes,
         size,

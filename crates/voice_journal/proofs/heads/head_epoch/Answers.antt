@@ -13,18 +13,18 @@ pub returns-then-epoch-lt1-clause-value : goal.returns-then-epoch-lt1-clause-val
 returns-then-epoch-lt1-clause-value c =
     not_counted c.args.bytes.now 0 (λ k.
     let some = k.some in
-    let is = c.number_8-epoch.ensures in
+    let is = c.read_8-epoch.ensures in
     omega (arith, some, is))
 
 pub returns-clause-value : goal.returns-clause-value
 returns-clause-value c =
     let size : 1 ≤ length c.args.bytes.now = search rules in
-    let is = c.number_8-epoch.ensures in
+    let is = c.read_8-epoch.ensures in
     (is_counted c.args.bytes.now 0 (record { gate = number_byte c.args.bytes.now 0 size ∙ c.if-bytes-ne1.false; some = omega (arith, is); limit = omega (arith, is) }), is)
 
 pub returns-then-epoch-clause-value : goal.returns-then-epoch-clause-value
 returns-then-epoch-clause-value c =
     not_counted c.args.bytes.now 0 (λ k.
     let limit = k.limit in
-    let is = c.number_8-epoch.ensures in
+    let is = c.read_8-epoch.ensures in
     omega (arith, limit, is))

@@ -15,15 +15,15 @@ returns-then-rest-le5 c =
 
 pub returns-then-len-rest : goal.returns-then-len-rest
 returns-then-len-rest c =
-    let len = c.number_4-len.ensures in
+    let len = c.read_4-len.ensures in
     (refused _ _ _ _ c.loop-gate.invariant c.loop-gate-test.true (subst (λ (n : ℕ). length c.args.area.now ≤ c.loop-gate.gate + 5 + n) len (omega arith)), c.loop-gate.invariant.within)
 
 pub loop-gate-preserved : goal.loop-gate-preserved
 loop-gate-preserved c =
     let gate = c.loop-gate.gate in
-    let n = c.number_4-len.result in
+    let n = c.read_4-len.result in
     let room : gate + 5 + n < length c.args.area.now = omega arith in
-    gone _ _ _ _ n _ _ _ c.loop-gate.invariant c.loop-gate-test.true c.number_4-len.ensures room refl (omega arith) c.in_ok-push.ensures.items
+    gone _ _ _ _ n _ _ _ c.loop-gate.invariant c.loop-gate-test.true c.read_4-len.ensures room refl (omega arith) c.in_ok-push.ensures.items
 
 pub returns : goal.returns
 returns c = ended _ _ _ _ c.loop-gate.invariant c.loop-gate-test.false

@@ -17,9 +17,9 @@ unfolding graces_in
 four_graces version a b c d bytes other ea eb ec ed = rw (ne_eqb version 1 other, ea, eb, ec, ed) refl
 
 pub returns-then-version-eq1 : goal.returns-then-version-eq1
-returns-then-version-eq1 c = one_grace c.args.version c.number_4-common.result c.args.bytes.now c.if-version-eq1.true c.number_4-common.ensures
+returns-then-version-eq1 c = one_grace c.args.version c.read_4-common.result c.args.bytes.now c.if-version-eq1.true c.read_4-common.ensures
 
 pub returns : goal.returns
 returns c =
-    four_graces c.args.version c.number_4-common.result c.number_4.result c.number_4-2.result c.number_4-3.result c.args.bytes.now c.if-version-eq1.false c.number_4-common.ensures c.number_4.ensures c.number_4-2.ensures
-    c.number_4-3.ensures
+    four_graces c.args.version c.read_4-common.result c.read_4.result c.read_4-2.result c.read_4-3.result c.args.bytes.now c.if-version-eq1.false c.read_4-common.ensures c.read_4.ensures c.read_4-2.ensures
+    c.read_4-3.ensures

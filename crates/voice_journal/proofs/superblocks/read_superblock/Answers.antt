@@ -35,8 +35,8 @@ returns-then-version-ne2-clause-value c =
     λ image len is.
     let bytes = c.args.bytes.now in
     let m : bytes_eq (take 8 bytes) magic ≡ true = equal _ (sym (c.ne.ensures ∙ ap (λ (l : List ℕ). not (bytes_eq (take 8 bytes) l)) c.as_slice.ensures) ∙ c.if-ne.false) in
-    let v = c.number_4-version.result in
-    let v_is : v ≡ number_at 4 8 bytes = c.number_4-version.ensures in
+    let v = c.read_4-version.result in
+    let v_is : v ≡ number_at 4 8 bytes = c.read_4-version.ensures in
     bad_version image bytes c.args.size len is c.requires v v_is m c.if-version-ne1.true c.if-version-ne2.true
 
 pub returns-in_default-clause-value : goal.returns-in_default-clause-value
@@ -44,32 +44,32 @@ returns-in_default-clause-value c =
     λ image len is.
     let bytes = c.args.bytes.now in
     let m : bytes_eq (take 8 bytes) magic ≡ true = equal _ (sym (c.ne.ensures ∙ ap (λ (l : List ℕ). not (bytes_eq (take 8 bytes) l)) c.as_slice.ensures) ∙ c.if-ne.false) in
-    let v = c.number_4-version.result in
-    let v_is : v ≡ number_at 4 8 bytes = c.number_4-version.ensures in
+    let v = c.read_4-version.result in
+    let v_is : v ≡ number_at 4 8 bytes = c.read_4-version.ensures in
     let some : (v ≡ 1) ⊎ (v ≡ 2) = elim c.else-version-ne1.branch [ else-version-ne1-via-then-version-ne1+else-version-ne2 w ↦ inr w.if-version-ne2.false | else-version-ne1-via-else-version-ne1 w ↦ inl w.if-version-ne1.false ] in
     let g = c.read_graces-graces.result in
     let l = c.from-lanes.result in
-    let x : IsSpelled bytes v c.number_4.result c.number_4-2.result c.number_4-3.result g l = record { block = c.number_4.ensures; blocks = c.number_4-2.ensures; area = c.number_4-3.ensures; graces = c.read_graces-graces.ensures; lanes = c.from-lanes.ensures ∙ c.number_2.ensures } in
+    let x : IsSpelled bytes v c.read_4.result c.read_4-2.result c.read_4-3.result g l = record { block = c.read_4.ensures; blocks = c.read_4-2.ensures; area = c.read_4-3.ensures; graces = c.read_graces-graces.ensures; lanes = c.from-lanes.ensures ∙ c.read_2.ensures } in
     let exact = c.in_default.ensures.exact in
-    bad_shape image bytes c.args.size len is c.requires v v_is m some c.number_4.result c.number_4-2.result c.number_4-3.result g l x (λ h. never (exact.1 h))
+    bad_shape image bytes c.args.size len is c.requires v v_is m some c.read_4.result c.read_4-2.result c.read_4-3.result g l x (λ h. never (exact.1 h))
 
 pub returns-then-not-is_zero-clause-value : goal.returns-then-not-is_zero-clause-value
 returns-then-not-is_zero-clause-value c =
     λ image len is.
     let bytes = c.args.bytes.now in
     let m : bytes_eq (take 8 bytes) magic ≡ true = equal _ (sym (c.ne.ensures ∙ ap (λ (l : List ℕ). not (bytes_eq (take 8 bytes) l)) c.as_slice.ensures) ∙ c.if-ne.false) in
-    let v = c.number_4-version.result in
-    let v_is : v ≡ number_at 4 8 bytes = c.number_4-version.ensures in
+    let v = c.read_4-version.result in
+    let v_is : v ≡ number_at 4 8 bytes = c.read_4-version.ensures in
     let some : (v ≡ 1) ⊎ (v ≡ 2) = elim c.else-version-ne1.branch [ else-version-ne1-via-then-version-ne1+else-version-ne2 w ↦ inr w.if-version-ne2.false | else-version-ne1-via-else-version-ne1 w ↦ inl w.if-version-ne1.false ] in
     let s = c.in-Ok.shape in
     let n = c.in-Ok.ensures.numbers in
     let exact = c.in-Ok.ensures.exact in
     let x : IsSpelled bytes v s.block s.blocks s.area s.graces s.lanes = record {
-      block = n.1 ∙ c.number_4.ensures;
-      blocks = n.2 ∙ c.number_4-2.ensures;
-      area = n.3 ∙ c.number_4-3.ensures;
+      block = n.1 ∙ c.read_4.ensures;
+      blocks = n.2 ∙ c.read_4-2.ensures;
+      area = n.3 ∙ c.read_4-3.ensures;
       graces = n.4 ∙ c.read_graces-graces.ensures;
-      lanes = n.5 ∙ c.from-lanes.ensures ∙ c.number_2.ensures;
+      lanes = n.5 ∙ c.from-lanes.ensures ∙ c.read_2.ensures;
     } in
     let fits : bytes_needed s.block s.blocks s.area ≤ c.args.size = needed_same _ _ _ _ _ _ _ n.1 n.2 n.3 (exact.0 refl).1 in
     let end = c.fields_end-end.ensures.value in
@@ -81,18 +81,18 @@ returns-clause-value c =
     λ image len is.
     let bytes = c.args.bytes.now in
     let m : bytes_eq (take 8 bytes) magic ≡ true = equal _ (sym (c.ne.ensures ∙ ap (λ (l : List ℕ). not (bytes_eq (take 8 bytes) l)) c.as_slice.ensures) ∙ c.if-ne.false) in
-    let v = c.number_4-version.result in
-    let v_is : v ≡ number_at 4 8 bytes = c.number_4-version.ensures in
+    let v = c.read_4-version.result in
+    let v_is : v ≡ number_at 4 8 bytes = c.read_4-version.ensures in
     let some : (v ≡ 1) ⊎ (v ≡ 2) = elim c.else-version-ne1.branch [ else-version-ne1-via-then-version-ne1+else-version-ne2 w ↦ inr w.if-version-ne2.false | else-version-ne1-via-else-version-ne1 w ↦ inl w.if-version-ne1.false ] in
     let s = c.in-Ok.shape in
     let n = c.in-Ok.ensures.numbers in
     let exact = c.in-Ok.ensures.exact in
     let x : IsSpelled bytes v s.block s.blocks s.area s.graces s.lanes = record {
-      block = n.1 ∙ c.number_4.ensures;
-      blocks = n.2 ∙ c.number_4-2.ensures;
-      area = n.3 ∙ c.number_4-3.ensures;
+      block = n.1 ∙ c.read_4.ensures;
+      blocks = n.2 ∙ c.read_4-2.ensures;
+      area = n.3 ∙ c.read_4-3.ensures;
       graces = n.4 ∙ c.read_graces-graces.ensures;
-      lanes = n.5 ∙ c.from-lanes.ensures ∙ c.number_2.ensures;
+      lanes = n.5 ∙ c.from-lanes.ensures ∙ c.read_2.ensures;
     } in
     let fits : bytes_needed s.block s.blocks s.area ≤ c.args.size = needed_same _ _ _ _ _ _ _ n.1 n.2 n.3 (exact.0 refl).1 in
     let end = c.fields_end-end.ensures.value in
