@@ -11,10 +11,9 @@ ghost use Rattle.change_codec.specs.Said.{key_in, recorded_in, edited_in, retain
 
 use super::appending::Width;
 use super::errors::GetError;
-use super::fields::{
-    end_at, id_at, moment_at, number_1, number_2, number_4, number_8, part_at, read_2, read_4,
-};
+use super::fields::{end_at, id_at, moment_at, number_1, number_2, number_4, number_8, part_at};
 use super::items::{addresses_at, ids_at, key_at, keys_at, pairs_at, pieces_at};
+use disk_areas::{read_2, read_4};
 use std::alloc::Global;
 use voice_model::{Change, Class, Note};
 
