@@ -9,44 +9,9 @@ use Rattle.voice_model.specs.State.{among}
 use Rattle.voice_model.specs.Changes.{each_once}
 use Rattle.voice_model.proofs.KeptByChanges.{same_bool}
 use Rattle.voice_model.proofs.PlacesKept.{same_itself}
-use Rattle.fillings.proofs.Filling.{or_left, or_right}
-
-pub or_cases : (a b : Bool) {P : Type 0} → (a ≡ true → P) → (b ≡ true → P) → (a || b) ≡ true → P
-or_cases true b f g e = f refl
-or_cases false b f g e = g e
-
--- one more in front, unless it is there
-length_once : {A : Type 0} (there : Bool) (x : A) (xs : List A) → length (cond there xs (x ∷ xs)) ≡ cond there 0 1 + length xs
-length_once true x xs = omega arith
-length_once false x xs = omega arith
+use Rattle.voice_blocks.proofs.Apart.{either_way, or_left, or_right, has_append, apart_count}
 
 -- ---- blocks
-
-pub has_append : (ps qs : List BlockPair) (q : BlockPair) → has_pair (ps ++ qs) q ≡ (has_pair ps q || has_pair qs q)
-has_append ps qs q = list_any-append (same_pair q) ps qs
-
-or_none : (a b : Bool) → b ≡ false → (a || b) ≡ a
-or_none true b e = refl
-or_none false b e = e
-
--- lists without a common block
-pub apart_count : (ps qs : List BlockPair) → ((q : BlockPair) → has_pair ps q ≡ true → has_pair qs q ≡ false) → length (distinct (ps ++ qs)) ≡ length (distinct ps) + length (distinct qs)
-apart_count [] qs apart = omega arith
-apart_count (p ∷ ps) qs apart =
-    let rest = apart_count ps qs (λ q h. apart q (or_right (same_pair q p) (has_pair ps q) h)) in
-    let there : has_pair (distinct (ps ++ qs)) p ≡ has_pair (distinct ps) p =
-    has_pair-distinct (ps ++ qs) p
-    ∙ has_append ps qs p
-    ∙ or_none (has_pair ps p) (has_pair qs p) (apart p (or_left (same_pair p p) (has_pair ps p) (same_itself p)))
-    ∙ sym (has_pair-distinct ps p) in
-    length_once (has_pair (distinct (ps ++ qs)) p) p (distinct (ps ++ qs))
-    ∙ ap (λ b. cond b 0 1 + length (distinct (ps ++ qs))) there
-    ∙ ap (λ n. cond (has_pair (distinct ps) p) 0 1 + n) rest
-    ∙ add_front (cond (has_pair (distinct ps) p) 0 1) (length (distinct ps)) (length (distinct qs))
-    ∙ ap (λ n. n + length (distinct qs)) (sym (length_once (has_pair (distinct ps) p) p (distinct ps)))
-  where
-    add_front : (a m n : ℕ) → a + (m + n) ≡ a + m + n
-    add_front a m n = omega arith
 
 -- blocks that are there already
 pub known_count : (ps qs : List BlockPair) → ((q : BlockPair) → has_pair qs q ≡ true → has_pair ps q ≡ true) → (q : BlockPair) → has_pair (ps ++ qs) q ≡ has_pair ps q
@@ -130,14 +95,14 @@ files_of ps = map (λ pair. pair.file) ps
 some_pair : (ps : List BlockPair) (n : ℕ) → among (files_of ps) n ≡ true → (p : BlockPair) × (has_pair ps p ≡ true) × (p.file ≡ n)
 some_pair [] n e = cc
 some_pair (p ∷ ps) n e =
-    or_cases (p.file == n) (among (files_of ps) n)
+    either_way (p.file == n) (among (files_of ps) n)
     (λ k. (p, or_left (same_pair p p) (has_pair ps p) (same_itself p), eqb-true p.file n k))
     (λ k. let found = some_pair ps n k in (found.0, or_right (same_pair found.0 p) (has_pair ps found.0) found.1, found.2)) e
 
 pub file_of_pair : (ps : List BlockPair) (p : BlockPair) → has_pair ps p ≡ true → among (files_of ps) p.file ≡ true
 file_of_pair [] p e = cc
 file_of_pair (q ∷ ps) p e =
-    or_cases (same_pair p q) (has_pair ps p)
+    either_way (same_pair p q) (has_pair ps p)
     (λ k. ap (λ b. b || among (files_of ps) p.file) (eq-eqb q.file p.file (ap (λ (x : BlockPair). x.file) (sym (same_pair-true p q k)))))
     (λ k. or_right (q.file == p.file) (among (files_of ps) p.file) (file_of_pair ps p k)) e
 

@@ -11,13 +11,7 @@ use Rattle.voice_model.specs.Replay.{Placed, Rebuilt, has_place, has_address, ad
 use Rattle.voice_model.specs.Valid.{Every}
 use Rattle.voice_model.proofs.KeptByChanges.{every-imply}
 use Rattle.voice_model.proofs.PlacesKept.{same_itself, has_pair-append, all_samples}
-
-pub or_left : (a b : Bool) → a ≡ true → (a || b) ≡ true
-or_left a b e = ap (λ x. x || b) e
-
-pub or_right : (a b : Bool) → b ≡ true → (a || b) ≡ true
-or_right true b e = refl
-or_right false b e = e
+use Rattle.voice_blocks.proofs.Apart.{or_left, or_right}
 
 -- ---- samples one by one
 

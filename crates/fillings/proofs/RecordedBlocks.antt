@@ -9,7 +9,7 @@ use Rattle.voice_units.proofs.Distinct.{same_pair-true, has_pair-distinct}
 use Rattle.voice_model.specs.State.{among}
 use Rattle.voice_model.specs.Changes.{each_once}
 use Rattle.voice_model.proofs.PlacesKept.{same_itself}
-use Rattle.fillings.proofs.Filling.{or_left}
+use Rattle.voice_blocks.proofs.Apart.{or_left}
 use Rattle.fillings.proofs.Counting.{files_of}
 
 abbrev block_in : ℕ → ℕ → BlockPair

@@ -20,8 +20,8 @@ use Rattle.voice_model.specs.Valid.{Every, IsTimely, live_pairs_of}
 use Rattle.voice_model.specs.declared.calls.Row.{Row}
 use Rattle.fillings.specs.Laws.{AreBelow, new_rope, blocks_size}
 use Rattle.voice_model.proofs.PlacesKept.{same_itself}
-use Rattle.fillings.proofs.Filling.{or_left, or_right}
-use Rattle.fillings.proofs.Counting.{or_cases, has_append, apart_count, known_count, files_of, same_files, apart_files}
+use Rattle.fillings.proofs.Counting.{known_count, files_of, same_files, apart_files}
+use Rattle.voice_blocks.proofs.Apart.{either_way, has_append, apart_count, or_left, or_right}
 use Rattle.fillings.proofs.RecordedBlocks.{recording_blocks, recording_file, recording_among, recording_files, some_samples}
 
 -- ---- the blocks of a base
@@ -55,7 +55,7 @@ each_known : (ps qs : List BlockPair) → list_all (has_pair ps) qs ≡ true →
 each_known ps [] h q e = cc
 each_known ps (p ∷ qs) h q e =
     let parts = both (has_pair ps p) (list_all (has_pair ps) qs) h in
-    or_cases (same_pair q p) (has_pair qs q) (λ k. ap (has_pair ps) (same_pair-true q p k) ∙ parts.0) (λ k. each_known ps qs parts.1 q k) e
+    either_way (same_pair q p) (has_pair qs q) (λ k. ap (has_pair ps) (same_pair-true q p k) ∙ parts.0) (λ k. each_known ps qs parts.1 q k) e
 
 known_size : (form : ℕ) (ps qs : List BlockPair) → list_all (has_pair ps) qs ≡ true → pairs_size form (ps ++ qs) ≡ pairs_size form ps + 0
 known_size form ps qs h =
@@ -77,14 +77,14 @@ pairs_recorded block id from (byte ∷ bytes) = ap (λ l. pair_at block (record 
 below_samples : (block id : ℕ) (samples : List Tagged) (q : BlockPair) → Every (λ (t : Tagged). t.file < id) samples → has_pair (pairs_of block samples) q ≡ true → q.file < id
 below_samples block id [] q h e = cc
 below_samples block id (t ∷ samples) q h e =
-    or_cases (same_pair q (pair_of block t)) (has_pair (pairs_of block samples) q)
+    either_way (same_pair q (pair_of block t)) (has_pair (pairs_of block samples) q)
     (λ k. let file : q.file ≡ t.file = ap (λ (x : BlockPair). x.file) (same_pair-true q (pair_of block t) k) in let less = h.0 in omega (arith, file, less))
     (λ k. below_samples block id samples q h.1 k) e
 
 below_ropes : (block id : ℕ) (ropes : List (Live Tagged)) (q : BlockPair) → AreBelow id ropes → has_pair (pairs_of block (flat_map (λ rope. rope.samples) ropes)) q ≡ true → q.file < id
 below_ropes block id [] q h e = cc
 below_ropes block id (rope ∷ ropes) q h e =
-    or_cases (has_pair (pairs_of block rope.samples) q) (has_pair (pairs_of block (flat_map (λ rope. rope.samples) ropes)) q)
+    either_way (has_pair (pairs_of block rope.samples) q) (has_pair (pairs_of block (flat_map (λ rope. rope.samples) ropes)) q)
     (below_samples block id rope.samples q h.0) (below_ropes block id ropes q h.1)
     (sym (ap (λ ps. has_pair ps q) (map-append (pair_of block) rope.samples (flat_map (λ rope. rope.samples) ropes)) ∙ has_append (pairs_of block rope.samples) (pairs_of block (flat_map (λ rope. rope.samples) ropes)) q) ∙ e)
 
@@ -95,7 +95,7 @@ not_true false h = refl
 below_files : (id : ℕ) (ps : List BlockPair) → ((q : BlockPair) → has_pair ps q ≡ true → q.file < id) → (n : ℕ) → among (files_of ps) n ≡ true → n < id
 below_files id [] below n e = cc
 below_files id (p ∷ ps) below n e =
-    or_cases (p.file == n) (among (files_of ps) n)
+    either_way (p.file == n) (among (files_of ps) n)
     (λ k. let file = eqb-true p.file n k in let less = below p (or_left (same_pair p p) (has_pair ps p) (same_itself p)) in omega (arith, file, less))
     (λ k. below_files id ps (λ q h. below q (or_right (same_pair q p) (has_pair ps q) h)) n k) e
 

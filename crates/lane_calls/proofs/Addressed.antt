@@ -9,7 +9,7 @@ use Rattle.voice_model.proofs.PlacesKept.{same_itself, has_pair-append}
 use Rattle.rope_table.specs.Table.{Table, Counts, Every, uses_in, pairs_in, pair_of}
 use Rattle.recovery.specs.declared.parts.Parts.{Parts}
 use Rattle.running_tables.specs.Running.{Runs}
-use Rattle.running_tables.proofs.Codes.{or_left, or_right, has_append}
+use Rattle.voice_blocks.proofs.Apart.{or_left, or_right, has_append}
 use Rattle.running_tables.proofs.Recounted.{used_once}
 use Rattle.play_queue.specs.declared.jobs.Job.{Job}
 use Rattle.play_queue.specs.Queued.{lane_of}

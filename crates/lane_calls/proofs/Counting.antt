@@ -18,7 +18,7 @@ use Rattle.recovery.specs.Shown.{Shows, plain_sample}
 use Rattle.recovery.proofs.Ropes.{uses_shown}
 use Rattle.edits.specs.Tables.{pieces_here}
 use Rattle.rope_algebra.proofs.Parts.{length-spots_of}
-use Rattle.running_tables.proofs.Codes.{or_left, or_right, either_way}
+use Rattle.voice_blocks.proofs.Apart.{or_left, or_right, either_way}
 use Rattle.play_queue.specs.declared.jobs.Job.{Job}
 use Rattle.play_queue.specs.Queued.{lane_of}
 use Rattle.playing.specs.Held.{held_in, held_by}

@@ -21,7 +21,7 @@ use Rattle.recovery.specs.Shown.{Shows}
 use Rattle.checkpoint.specs.Blocks.{IsHeld}
 use Rattle.running_tables.specs.Running.{is_wanted, GivesJust, Runs}
 use Rattle.next_ropes.specs.Addresses.{KeepsAddresses}
-use Rattle.running_tables.proofs.Codes.{either_way, or_left, or_right, has_append}
+use Rattle.voice_blocks.proofs.Apart.{either_way, or_left, or_right, has_append}
 use Rattle.running_tables.proofs.Passages.{pairs_after}
 use Rattle.running_tables.proofs.Recounted.{used_once, once_used, one_has}
 use Rattle.playing.specs.Held.{LetsGo, passages_have}

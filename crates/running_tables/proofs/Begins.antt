@@ -12,7 +12,7 @@ use Rattle.voice_blocks.specs.declared.owner.Holder.{Holder}
 use Rattle.recovery.specs.declared.parts.Parts.{Parts}
 use Rattle.recovery.specs.Shown.{Rebuilds, placed_at}
 use Rattle.running_tables.specs.Running.{Runs, is_wanted, given}
-use Rattle.running_tables.proofs.Codes.{or_left}
+use Rattle.voice_blocks.proofs.Apart.{or_left}
 use Rattle.checkpoint.proofs.Held.{all_held}
 
 pub some_is : {A : Type 0} {x y : A} → Some x ≡ Some y → x ≡ y

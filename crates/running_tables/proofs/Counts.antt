@@ -7,7 +7,7 @@ use Rattle.voice_blocks.specs.declared.owner.Owner.{Owner}
 use Rattle.voice_blocks.specs.declared.owner.Owner.TheVariants.{File, Taking}
 use Rattle.voice_blocks.specs.declared.owner.Holder.{Holder}
 use Rattle.running_tables.specs.Running.{code_of, given}
-use Rattle.running_tables.proofs.Codes.{either_way}
+use Rattle.voice_blocks.proofs.Apart.{either_way}
 
 -- blocks of the same code are the same
 pub code_same : (o p : Owner) (i j : ℕ) → code_of o i ≡ code_of p j → block_of o i ≡ block_of p j

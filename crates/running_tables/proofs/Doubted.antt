@@ -28,7 +28,7 @@ use Rattle.running_tables.specs.Running.{is_wanted, Runs}
 use Rattle.running_tables.specs.Laws as laws
 use Rattle.running_tables.proofs.Begins.{some_is, one_of, one_address}
 use Rattle.running_tables.proofs.Free.{place_given}
-use Rattle.running_tables.proofs.Codes.{or_right}
+use Rattle.voice_blocks.proofs.Apart.{or_right}
 use Rattle.running_tables.proofs.Quiet.{alone}
 
 all_samples_with : (ropes : List (Live Spot)) (rope : Live Spot) → flat_map (λ (x : Live Spot). x.samples) (ropes ++ rope ∷ []) ≡ flat_map (λ (x : Live Spot). x.samples) ropes ++ rope.samples

@@ -21,7 +21,7 @@ use Rattle.checkpoint.specs.Blocks.{IsHeld}
 use Rattle.running_tables.specs.Running.{taken, is_wanted, GivesJust, Runs}
 use Rattle.running_tables.specs.Laws as laws
 use Rattle.running_tables.proofs.Begins.{some_is}
-use Rattle.running_tables.proofs.Codes.{either_way, or_left, or_right, has_append}
+use Rattle.voice_blocks.proofs.Apart.{either_way, or_left, or_right, has_append}
 use Rattle.running_tables.proofs.Passages.{pairs_after}
 use Rattle.running_tables.proofs.Ended.{with_pledge}
 use Rattle.running_tables.proofs.Recounted.{one_has}

@@ -16,7 +16,7 @@ use Rattle.checkpoint.specs.Blocks.{IsHeld}
 use Rattle.running_tables.specs.Running.{taken, is_wanted, GivesJust, IsGiven}
 use Rattle.running_tables.specs.Laws as laws
 use Rattle.running_tables.proofs.Begins.{some_is}
-use Rattle.running_tables.proofs.Codes.{either_way, or_left, or_right, has_append}
+use Rattle.voice_blocks.proofs.Apart.{either_way, or_left, or_right, has_append}
 use Rattle.running_tables.proofs.Passages.{pairs_after}
 
 -- a block that was of the recording

@@ -21,7 +21,8 @@ use Rattle.running_tables.specs.Running.{taken, is_wanted, code_of, given, Gives
 use Rattle.running_tables.specs.Laws.{Placed, CountsUsed, CountsFree}
 use Rattle.running_tables.proofs.Counts.{given_at, each_once}
 use Rattle.running_tables.proofs.Begins.{some_is, divided}
-use Rattle.running_tables.proofs.Codes.{either_way, or_left, or_right, has_append, even, has_even, some_even, odds, in_odds, odds_have, all_count, total}
+use Rattle.running_tables.proofs.Codes.{even, has_even, some_even, odds, in_odds, odds_have, all_count, total}
+use Rattle.voice_blocks.proofs.Apart.{either_way, or_left, or_right, has_append}
 use Rattle.running_tables.proofs.Passages.{used_by_state, total_taken}
 
 -- a block that has an address was given out

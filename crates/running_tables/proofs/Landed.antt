@@ -29,7 +29,7 @@ use Rattle.checkpoint.specs.Blocks.{IsHeld}
 use Rattle.running_tables.specs.Running.{is_wanted, GivesJust, Runs}
 use Rattle.running_tables.specs.Laws as laws
 use Rattle.running_tables.proofs.Begins.{some_is}
-use Rattle.running_tables.proofs.Codes.{or_right}
+use Rattle.voice_blocks.proofs.Apart.{or_right}
 use Rattle.running_tables.proofs.Ended.{with_pledge}
 use Rattle.running_tables.proofs.Doubted.{used_with}
 

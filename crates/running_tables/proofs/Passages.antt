@@ -15,7 +15,8 @@ use Rattle.voice_model.specs.Valid.{live_pairs_of}
 use Rattle.voice_model.proofs.LegalInReplay.{used_filled}
 use Rattle.rope_table.specs.Table.{pairs_in}
 use Rattle.running_tables.specs.Running.{held_in, pledged_in}
-use Rattle.running_tables.proofs.Codes.{has_append, total}
+use Rattle.running_tables.proofs.Codes.{total}
+use Rattle.voice_blocks.proofs.Apart.{has_append}
 
 pub pairs_after : (block : ℕ) (xs ys : List (List Piece)) → pairs_in block (xs ++ ys) ≡ pairs_in block xs ++ pairs_in block ys
 pairs_after block [] ys = refl

@@ -17,7 +17,7 @@ use Rattle.running_tables.specs.Running.{taken, is_wanted, Runs, RunsState, pled
 use Rattle.running_tables.specs.Laws as laws
 use Rattle.running_tables.proofs.Begins.{begins}
 use Rattle.running_tables.proofs.Passages.{job_passages}
-use Rattle.running_tables.proofs.Codes.{or_left, either_way}
+use Rattle.voice_blocks.proofs.Apart.{or_left, either_way}
 
 pub spelled : laws.Spelled
 spelled held pledged takings parts b runs = record {

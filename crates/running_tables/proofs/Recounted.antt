@@ -13,7 +13,7 @@ use Rattle.voice_blocks.specs.declared.owner.Owner.{Owner}
 use Rattle.voice_blocks.specs.declared.owner.Owner.TheVariants.{File, Taking}
 use Rattle.running_tables.specs.Running.{is_wanted}
 use Rattle.running_tables.specs.Laws as laws
-use Rattle.running_tables.proofs.Codes.{either_way, or_left, or_right, has_append}
+use Rattle.voice_blocks.proofs.Apart.{either_way, or_left, or_right, has_append}
 use Rattle.running_tables.proofs.Passages.{pairs_after}
 
 -- a block that is held has a use

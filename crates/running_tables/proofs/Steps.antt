@@ -19,7 +19,7 @@ use Rattle.checkpoint.specs.Blocks.{IsHeld}
 use Rattle.running_tables.specs.Running.{is_wanted, taken, GivesJust, IsGiven}
 use Rattle.running_tables.specs.Laws.{while_wanted}
 use Rattle.running_tables.specs.Laws as laws
-use Rattle.running_tables.proofs.Codes.{either_way, or_left, or_right, has_append}
+use Rattle.voice_blocks.proofs.Apart.{either_way, or_left, or_right, has_append}
 use Rattle.running_tables.proofs.Free.{rope_blocks}
 use Rattle.running_tables.proofs.Recounted.{all_have}
 

@@ -27,7 +27,7 @@ use Rattle.checkpoint.specs.Blocks.{IsHeld}
 use Rattle.running_tables.specs.Running.{is_wanted, GivesJust}
 use Rattle.running_tables.specs.Laws as laws
 use Rattle.running_tables.proofs.Begins.{some_is}
-use Rattle.running_tables.proofs.Codes.{or_left, or_right}
+use Rattle.voice_blocks.proofs.Apart.{or_left, or_right}
 use Rattle.running_tables.proofs.Recounted.{used_once, once_used}
 use Rattle.running_tables.proofs.Dropped.{apart}
 

@@ -25,7 +25,7 @@ use Rattle.recovery.proofs.Recordings.{block_used}
 use Rattle.checkpoint.specs.Blocks.{IsHeld}
 use Rattle.running_tables.specs.Running.{taken as taken_in, is_wanted, GivesJust, IsGiven, Runs}
 use Rattle.running_tables.specs.Laws as laws
-use Rattle.running_tables.proofs.Codes.{either_way, or_left, or_right}
+use Rattle.voice_blocks.proofs.Apart.{either_way, or_left, or_right}
 use Rattle.running_tables.proofs.Ended.{with_pledge}
 use Rattle.running_tables.proofs.Free.{rope_blocks}
 use Rattle.running_tables.proofs.Grown.{grown_size, old_stays, old_or_new, new_has, still_single}

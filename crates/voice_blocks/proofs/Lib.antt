@@ -4,3 +4,4 @@ pub mod SoundLemmas
 pub mod TakeLemmas
 pub mod DropLemmas
 pub mod MoveLemmas
+pub mod Apart

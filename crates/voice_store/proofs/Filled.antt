@@ -28,7 +28,7 @@ use Rattle.checkpoint.specs.Blocks.{IsHeld}
 use Rattle.rope_table.specs.Table.{pair_of, pairs_in}
 use Rattle.recovery.specs.declared.parts.Parts.{Parts}
 use Rattle.running_tables.specs.Running.{Runs}
-use Rattle.running_tables.proofs.Codes.{either_way}
+use Rattle.voice_blocks.proofs.Apart.{either_way}
 use Rattle.running_tables.proofs.Recounted.{one_has}
 use Rattle.running_tables.proofs.Steps.{file_below}
 use Rattle.running_tables.proofs.Taken.{first_blocks, none_yet}

@@ -28,7 +28,7 @@ use Rattle.voice_model.proofs.Heard.{reply_on, same_outcome}
 use Rattle.built_calls.specs.Built.{is_built}
 use Rattle.checkpoint.specs.Blocks.{IsHeld as IsAt}
 use Rattle.next_changes.proofs.Given.{given}
-use Rattle.fillings.proofs.Counting.{or_cases}
+use Rattle.voice_blocks.proofs.Apart.{either_way}
 use Rattle.rope_table.specs.Table.{pieces_at}
 use Rattle.edits.proofs.Seen.{spots_shown, rope_length, its_pieces, missing_shown, a_rope, no_rope}
 use Rattle.crash_laws.specs.Foundations.{Foundations}
@@ -90,7 +90,7 @@ long_of form now (rope ∷ ropes) id h = by (rope.id == id) (long_of form now ro
 pair_placed : (block : ℕ) (places : List Placed) (ss : List Spot) → Every (IsPlace block places) ss → (pair : BlockPair) → has_pair (pairs_at block ss) pair ≡ true → has_place places pair ≡ true
 pair_placed block places [] h pair e = absurd (wrong e)
 pair_placed block places (s ∷ ss) h pair e =
-    or_cases (same_pair pair (pair_at block s)) (has_pair (pairs_at block ss) pair)
+    either_way (same_pair pair (pair_at block s)) (has_pair (pairs_at block ss) pair)
     (λ k. subst (λ q. has_place places q ≡ true) (sym (same_pair-true pair (pair_at block s) k)) h.0.held)
     (λ k. pair_placed block places ss h.1 pair k) e
 

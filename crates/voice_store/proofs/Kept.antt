@@ -38,7 +38,7 @@ use Rattle.edits.proofs.UsedBlocks.{of_live_ropes}
 use Rattle.edits.proofs.Seen.{places_length}
 use Rattle.fillings.proofs.Sizes.{edited_size}
 use Rattle.fillings.proofs.Calls.{call_does}
-use Rattle.fillings.proofs.Counting.{or_cases}
+use Rattle.voice_blocks.proofs.Apart.{either_way}
 use Rattle.crash_laws.specs.Foundations.{Foundations}
 use Rattle.crash_laws.specs.Standing.{IsHonest, IsHeld}
 use Rattle.crash_laws.proofs.Opened.{standing_gives}
@@ -161,7 +161,7 @@ pub each_had : (others pairs : List BlockPair) → list_all (has_pair others) pa
 each_had others [] h q e = absurd (wrong e)
 each_had others (p ∷ pairs) h q e =
     let parts = both (has_pair others p) (list_all (has_pair others) pairs) h in
-    or_cases (same_pair q p) (has_pair pairs q) (λ k. ap (has_pair others) (same_pair-true q p k) ∙ parts.0) (λ k. each_had others pairs parts.1 q k) e
+    either_way (same_pair q p) (has_pair pairs q) (λ k. ap (has_pair others) (same_pair-true q p k) ∙ parts.0) (λ k. each_had others pairs parts.1 q k) e
 
 module _ (first : State) (t0 : ℕ) (disk : Told) (s : Inside) (call : Call) (pieces : List Piece) (way : Way) (h : HasWay first t0 disk s call pieces way) where
   abbrev now : State

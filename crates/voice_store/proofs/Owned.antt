@@ -21,7 +21,7 @@ use Rattle.voice_model.specs.declared.changes.Change.TheVariants as kinds
 use Rattle.voice_model.proofs.KeptByChanges.{every-append, every-filter}
 use Rattle.checkpoint.specs.Blocks.{IsHeld as IsHeldAt}
 use Rattle.recovery.specs.declared.parts.Parts.{Parts}
-use Rattle.fillings.proofs.Counting.{or_cases}
+use Rattle.voice_blocks.proofs.Apart.{either_way}
 use Rattle.recording_writer.specs.Wrote.{WroteAt}
 use Rattle.recording_adds.specs.Adds.{HasWhole, WroteOwn}
 use Rattle.running_tables.specs.Running.{Runs}
@@ -54,7 +54,7 @@ pub record IsOfFile (holders : Holders) (a : ℕ) : Type 0 where
 placed_file : (holders : Holders) (places : List Placed) (a : ℕ) → Every (IsHeldAt holders) places → has_address places a ≡ true → IsOfFile holders a
 placed_file holders [] a h e = absurd (wrong e)
 placed_file holders (p ∷ places) a h e =
-    or_cases (p.address == a) (has_address places a)
+    either_way (p.address == a) (has_address places a)
     (λ k. record { file = p.pair.file; index = p.pair.index; held = ap (holder_at holders) (sym (eqb-true p.address a k)) ∙ h.0 })
     (λ k. placed_file holders places a h.1 k) e
 

@@ -13,7 +13,7 @@ use Rattle.running_tables.specs.Running.{held_in, IsGiven}
 use Rattle.running_tables.proofs.Free.{rope_blocks}
 use Rattle.running_tables.proofs.Passages.{used_by_state}
 use Rattle.running_tables.proofs.Recounted.{used_once, once_used}
-use Rattle.running_tables.proofs.Codes.{or_left, or_right, either_way}
+use Rattle.voice_blocks.proofs.Apart.{or_left, or_right, either_way}
 use Rattle.playing.specs.declared.blocks.Block.{Block}
 use Rattle.playing.specs.Frames.{resident_at, is_resident, uses_of}
 use Rattle.playing.specs.Held.{held_by}

@@ -19,7 +19,7 @@ use Rattle.recovery.specs.declared.parts.Parts.{Parts}
 use Rattle.recovery.proofs.Rebuilding.{filter_all}
 use Rattle.running_tables.specs.Running.{Runs}
 use Rattle.running_tables.specs.Laws.{HasFirst}
-use Rattle.running_tables.proofs.Codes.{or_right}
+use Rattle.voice_blocks.proofs.Apart.{or_right}
 use Rattle.running_tables.proofs.Recounted.{all_have}
 use Rattle.running_tables.proofs.Taken.{first_blocks}
 use Rattle.lane_calls.specs.Lanes.{ArePledged}

@@ -15,7 +15,7 @@ use Rattle.voice_model.specs.Places.{IsPlace, IsInRange, IsPlaced}
 use Rattle.voice_model.proofs.LegalInReplay.{acted_again}
 use Rattle.recovery.proofs.Ropes.{not_equal}
 use Rattle.fillings.specs.Laws.{AreBelow}
-use Rattle.fillings.proofs.Counting.{or_cases}
+use Rattle.voice_blocks.proofs.Apart.{either_way}
 use Rattle.fillings.proofs.Filling.{each_imply, same_filling}
 use Rattle.voice_store.proofs.Refused.{wrong}
 
@@ -24,7 +24,7 @@ use Rattle.voice_store.proofs.Refused.{wrong}
 file_below : (next blocks : ℕ) (places : List Placed) (q : BlockPair) → Every (IsInRange next blocks) places → has_place places q ≡ true → q.file < next
 file_below next blocks [] q h e = absurd (wrong e)
 file_below next blocks (place ∷ places) q h e =
-    or_cases (same_pair place.pair q) (has_place places q)
+    either_way (same_pair place.pair q) (has_place places q)
     (λ k. subst (λ (p : BlockPair). p.file < next) (same_pair-true place.pair q k) h.0.known)
     (λ k. file_below next blocks places q h.1 k) e
 
