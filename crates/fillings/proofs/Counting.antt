@@ -1,10 +1,9 @@
 -- How many distinct blocks, and how many distinct files, lists have one after another.
-use Rattle.std.proofs.Common.{◌≡◌, ℕ, ◌+◌, ◌==◌, Bool, true, false, ◌&&◌, ◌||◌, cond, List, [], ◌∷◌, ◌++◌, map, length, refl, sym, ◌∙◌, ap, subst, arith}
+use Rattle.std.proofs.Common.{◌≡◌, ℕ, ◌+◌, ◌==◌, Bool, true, false, ◌&&◌, ◌||◌, cond, List, [], ◌∷◌, ◌++◌, map, length, refl, sym, ◌∙◌, ap, subst}
 use Rattle.std.proofs.lemmas.Bool.{eqb-true, eq-eqb}
 use Rattle.std.proofs.lemmas.List.{length-map, map-append}
-use Rattle.std.proofs.lemmas.List.Folds.{list_any-append}
 use Rattle.voice_units.specs.Blocks.{BlockPair, same_pair, has_pair, distinct}
-use Rattle.voice_units.proofs.Distinct.{same_pair-true, has_pair-distinct, same_count}
+use Rattle.voice_units.proofs.Distinct.{same_pair-true, same_count}
 use Rattle.voice_model.specs.State.{among}
 use Rattle.voice_model.specs.Changes.{each_once}
 use Rattle.voice_model.proofs.KeptByChanges.{same_bool}

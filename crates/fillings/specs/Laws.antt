@@ -10,7 +10,7 @@
 --     Brings      a change that is replayed does, filled in, what it did in the server
 --     Alters      so does the change of a call that nothing refuses, and it may be replayed
 --     SizesOfChanges      the size of the base after an edit and after a recording
-use Rattle.std.specs.Prelude.{◌≡◌, ℕ, ◌+◌, ◌*◌, ◌/◌, ◌%◌, ◌≤◌, ◌<◌, ◌==◌, true, false, cond, List, map, length, replicate, slice_index, Some, None}
+use Rattle.std.specs.Prelude.{◌≡◌, ℕ, ◌+◌, ◌*◌, ◌/◌, ◌%◌, ◌≤◌, ◌<◌, ◌==◌, true, false, cond, List, map, length, slice_index, Some, None}
 use Rattle.voice_units.specs.declared.shapes.Shape.{Shape}
 use Rattle.voice_units.specs.Spots.{slice, replaced}
 use Rattle.voice_units.specs.Blocks.{blocks_for}
