@@ -5,6 +5,7 @@ mod adding;
 mod asking;
 mod choosing;
 mod editing;
+mod feeds;
 pub mod figures;
 mod growing;
 pub mod images;

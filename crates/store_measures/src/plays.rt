@@ -5,10 +5,11 @@ ghost use Rattle.std.specs.Arc.{arc_value};
 ghost use Rattle.lane_calls.specs.Answers.{IsHandedOut};
 ghost use Rattle.voice_store.specs.Shown.{pool_of, tapes_in};
 
+use crate::feeds::measure_feeds;
 use crate::stores::{ask, cut, format, let_go, open_store, record};
 use bench_report::bare;
 use bench_report::disks::{bytes_of, memory_disk, shape_of, size_of};
-use bench_report::report::{middle, ratio};
+use bench_report::report::ratio;
 use frame_pool::Lease;
 use lane_calls::Fed;
 use std::alloc::{AllocError, Global};
@@ -23,7 +24,7 @@ use voice_outside::Disk;
 use voice_store::Store;
 use voice_units::{Lane, NoMemory, Piece, RopeId, Shape, Take};
 
-const BLOCK: u32 = 4096;
+pub(crate) const BLOCK: u32 = 4096;
 
 const BLOCKS: u32 = 15_000;
 
@@ -43,7 +44,7 @@ const RECORDING: Take = Take {
 };
 
 // How many pieces the played rope has, and how long they are.
-const PIECES: u32 = 4096;
+pub(crate) const PIECES: u32 = 4096;
 
 const SHORTEST: u32 = 1 << 10;
 
@@ -69,34 +70,31 @@ const HEARD: u32 = 48 << 20;
 
 const JOBS: u32 = 8;
 
-const RUNS: usize = 7;
+pub(crate) const RUNS: usize = 7;
 
 // The file that what was heard, or read, is written to.
 const WRITTEN: &str = "voice_bench.heard";
 
-// How many Feeds at a place are timed together.
-const FEEDS: u32 = 200;
-
 // What is heard: the stretches of the played rope, those of all samples of a run, and the length of the rope.
 #[derive(Drop)]
-struct Sheet {
-    passage: Vec<Piece>,
+pub(crate) struct Sheet {
+    pub(crate) passage: Vec<Piece>,
     heard: Vec<Piece>,
-    length: u32,
+    pub(crate) length: u32,
 }
 
 impl Sheet {
     // How many windows the played rope has.
-    fn windows(&self) -> u32 {
+    pub(crate) fn windows(&self) -> u32 {
         (self.passage.len() / 4).min(1 << 20) as u32 + 1
     }
 }
 
-fn no_memory() -> io::Error {
+pub(crate) fn no_memory() -> io::Error {
     io::Error::from(AllocError)
 }
 
-fn refused() -> io::Error {
+pub(crate) fn refused() -> io::Error {
     io::Error::from(ErrorKind::InvalidData)
 }
 
@@ -322,7 +320,7 @@ fn hear_window<D: Disk>(
 }
 
 // The same of so many windows, and what was fed last.
-fn hear<D: Disk>(
+pub(crate) fn hear<D: Disk>(
     store: &mut Store<D>,
     fed: Fed,
     windows: u32,
@@ -340,7 +338,7 @@ fn hear<D: Disk>(
 }
 
 // A job of the first samples of the played rope, and its first window.
-fn begin<D: Disk>(store: &mut Store<D>, len: u32) -> Result<Fed, NoMemory>
+pub(crate) fn begin<D: Disk>(store: &mut Store<D>, len: u32) -> Result<Fed, NoMemory>
     ensures out { IfOk result (IsHandedOut (pool_of store.new) 0) }
 {
     if !ask(store, Call::Play(Lane(0), RopeId(PLAYED as u64), 0, len)) {
@@ -420,7 +418,7 @@ fn read_stretch<D: Disk>(
 }
 
 // The same of all stretches, which are put one behind another.
-fn read_all<D: Disk>(
+pub(crate) fn read_all<D: Disk>(
     disk: &mut D,
     stretches: &[Piece],
     room: &mut [u8],
@@ -505,88 +503,6 @@ fn time_both<R: Clock + Files, D: Disk>(
     Ok((plays, reads))
 }
 
-// The nanoseconds of a Feed, the mean of those that bring windows back from what was fed on, of which at most so much was heard; and what was fed last.
-fn time_feeds<R: Clock, D: Disk>(
-    rt: &R,
-    store: &mut Store<D>,
-    fed: Fed,
-    most: u32,
-) -> io::Result<(u128, Fed)>
-    requires out { IsHandedOut (pool_of store.old) 0 fed }
-    ensures out { IfOk result (λ timed. IsHandedOut (pool_of store.new) 0 timed.1) }
-{
-    let start = Instant::now(rt)?;
-    let last = hear(store, fed, FEEDS, most, &mut []);
-    let took = start.elapsed(rt)?;
-    match last {
-        Ok(last) => Ok((took.as_nanos() / u128::from(FEEDS), last)),
-        Err(_) => Err(no_memory()),
-    }
-}
-
-// What was fed behind so many windows, none of which is copied.
-fn skip<D: Disk>(store: &mut Store<D>, fed: Fed, windows: u32) -> io::Result<Fed>
-    requires out { IsHandedOut (pool_of store.old) 0 fed }
-    ensures out { IfOk result (IsHandedOut (pool_of store.new) 0) }
-{
-    match hear(store, fed, windows, u32::MAX, &mut []) {
-        Ok(last) => Ok(last),
-        Err(_) => Err(no_memory()),
-    }
-}
-
-// The same of Feeds from a window of the passage on; the job is then heard to its end.
-fn time_place<R: Clock, D: Disk>(
-    rt: &R,
-    store: &mut Store<D>,
-    sheet: &Sheet,
-    window: u32,
-    most: u32,
-) -> io::Result<u128> {
-    let Ok(first) = begin(store, sheet.length) else {
-        return Err(no_memory());
-    };
-    let fed = skip(store, first, window)?;
-    let (took, fed) = time_feeds(rt, store, fed, most)?;
-    let last = skip(store, fed, sheet.windows())?;
-    if !matches!(last, Fed::Ended(_, _)) {
-        return Err(refused());
-    }
-    Ok(took)
-}
-
-// The middle one of some runs.
-fn time_window<R: Clock, D: Disk>(
-    rt: &R,
-    store: &mut Store<D>,
-    sheet: &Sheet,
-    window: u32,
-    most: u32,
-) -> io::Result<u128> {
-    let mut figures = [0u128; RUNS];
-    for figure in figures.iter_mut() {
-        *figure = time_place(rt, store, sheet, window, most)?;
-    }
-    Ok(middle(&mut figures))
-}
-
-// Prints what a Feed costs by its place in the passage.
-fn measure_feeds<R: Print + Clock, D: Disk>(
-    rt: &R,
-    store: &mut Store<D>,
-    sheet: &Sheet,
-    name: &str,
-    most: u32,
-) -> io::Result<()> {
-    let last = sheet.windows().saturating_sub(FEEDS + 2);
-    let first = time_window(rt, store, sheet, 0, most)?;
-    let half = time_window(rt, store, sheet, last / 2, most)?;
-    let end = time_window(rt, store, sheet, last, most)?;
-    println!(rt;
-        "{name}: {first} ns at the beginning of a passage of {PIECES} pieces, {half} ns in its middle, {end} ns at its end"
-    )
-}
-
 fn measure_plays<R: Print + Clock + Files, D: Disk>(
     rt: &R,
     alloc: Global,
@@ -607,8 +523,7 @@ fn measure_plays<R: Print + Clock + Files, D: Disk>(
         plays.to_a_file,
         reads.to_a_file,
     )?;
-    measure_feeds(rt, store, sheet, "a Feed of a whole window", u32::MAX)?;
-    measure_feeds(rt, store, sheet, "a Feed of nothing heard", 0)
+    measure_feeds(rt, store, disk, sheet)
 }
 
 fn measure_store<R: Print + Clock + Files, D: Disk>(
@@ -693,7 +608,7 @@ fn measure_tapes<R: Print + Clock + Files>(
     open_and_measure(rt, alloc, disk, &mut other, shared, tapes)
 }
 
-/// Prints what plays of 48 MiB cost beside plain reads of the blocks that their windows touch, once for each stretch, with a copy of its samples, both in memory and written to a file of this folder; and what a Feed costs by its place in a passage of 4,096 pieces.
+/// Prints what plays of 48 MiB cost beside plain reads of the blocks that their windows touch, once for each stretch, with a copy of its samples, both in memory and written to a file of this folder; and what a Feed costs by its place in a passage of 4,096 pieces, beside the reads of its blocks alone.
 pub fn measure<R: Print + Clock + AllocGlobal + Files>(rt: &R) -> io::Result<()> {
     let tapes = one_tape(rt.alloc())?;
     measure_tapes(rt, rt.alloc(), &tapes)
