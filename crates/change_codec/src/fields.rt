@@ -1,7 +1,6 @@
 //! Numbers in a payload, with their ranges.
 
-ghost use Rattle.std.specs.Prelude.{◌≡◌, ℕ, ◌+◌, ◌≤◌, ◌^◌, length, None, IfOk, IfErr, MatchResult};
-ghost use Rattle.voice_units.specs.Spots.{slice};
+ghost use Rattle.std.specs.Prelude.{◌≡◌, ◌+◌, ◌≤◌, ◌^◌, length, None, IfOk, MatchResult};
 ghost use Rattle.disk_areas.specs.Numbers.{number_at};
 ghost use Rattle.change_codec.specs.Refused.{number, part, behind, IsPlace};
 
