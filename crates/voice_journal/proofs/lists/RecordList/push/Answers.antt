@@ -1,4 +1,4 @@
-use Rattle.std.proofs.Common.{rules, ◌≡◌, ◌+◌, ◌++◌, ◌∷◌, [], ℕ, List, length, take, drop, length-append, sym, ap, ◌∙◌, subst, arith}
+use Rattle.std.proofs.Common.{rules, ◌≡◌, ◌++◌, ◌∷◌, [], ℕ, List, length, take, drop, length-append, sym, ap, ◌∙◌, subst, arith}
 use Rattle.disk_areas.specs.Areas.{Record}
 use Rattle.voice_journal.specs.Lent.{lent, AreWithin}
 use Rattle.voice_journal.specs.Readings.{record_at}
