@@ -1,9 +1,11 @@
 -- The place of one field.
-use Rattle.std.proofs.Common.{◌≡◌, ℕ, ◌+◌, ◌≤◌, ◌<◌, Bool, true, false, ◌&&◌, cond, List, length, Some, None, refl, ap, ◌∙◌, arith}
+use Rattle.std.proofs.Common.{◌≡◌, ◌⊎◌, inl, inr, ℕ, ◌+◌, ◌≤◌, ◌<◌, Bool, true, false, ◌&&◌, cond, List, length, Some, None, refl, ap, sym, subst, ◌∙◌, arith}
 use Rattle.std.specs.Prelude.{nat_le, nat_lt}
 use Rattle.std.proofs.lemmas.Bool.Decides.{nat_tests}
 use Rattle.disk_areas.specs.Numbers.{number_at}
-use Rattle.change_codec.specs.Refused.{number, part, behind}
+use Rattle.change_codec.specs.Refused.{number, part, behind, IsPlace}
+use Rattle.change_codec.specs.declared.errors.GetError.{GetError}
+use Rattle.change_codec.specs.declared.errors.GetError.TheVariants.{NotAChange, NoMemory}
 
 leb : (m n : ℕ) → m ≤ n → nat_le m n ≡ true
 leb m n h = grind (arith, nat_tests)
@@ -59,21 +61,26 @@ number_right at width least most bytes h lo hi =
     let n = number_at width at bytes in
     whole at width least most bytes true h (ap (λ b. b && nat_le n most) (leb least n lo) ∙ leb n most hi)
 
-pub number_low : (at width least most : ℕ) (bytes : List ℕ) → at + width ≤ length bytes → number_at width at bytes < least → number at width least most bytes ≡ Some at
-number_low at width least most bytes h lo =
-    let n = number_at width at bytes in
-    whole at width least most bytes false h (ap (λ b. b && nat_le n most) (not_leb least n lo))
+-- a number outside its range, of which an error tells the place
+pub number_out : (at width least most : ℕ) (bytes : List ℕ) (e : GetError) → at + width ≤ length bytes → (number_at width at bytes < least) ⊎ (most < number_at width at bytes) → e ≡ NotAChange at → IsPlace (number at width least most bytes) e
+number_out at width least most bytes e h out is = subst (λ (x : GetError). IsPlace (number at width least most bytes) x) (sym is) (whole at width least most bytes false h (by out))
+  where
+    n : ℕ
+    n = number_at width at bytes
 
-pub number_high : (at width least most : ℕ) (bytes : List ℕ) → at + width ≤ length bytes → most < number_at width at bytes → number at width least most bytes ≡ Some at
-number_high at width least most bytes h hi =
-    let n = number_at width at bytes in
-    whole at width least most bytes false h (ap (λ b. nat_le least n && b) (not_leb n most hi) ∙ no_and (nat_le least n))
+    by : (n < least) ⊎ (most < n) → (nat_le least n && nat_le n most) ≡ false
+    by (inl lo) = ap (λ b. b && nat_le n most) (not_leb least n lo)
+    by (inr hi) = ap (λ b. nat_le least n && b) (not_leb n most hi) ∙ no_and (nat_le least n)
 
-pub number_short : (at width least most : ℕ) (bytes : List ℕ) → length bytes < at + width → number at width least most bytes ≡ Some (length bytes)
-unfolding number
-number_short at width least most bytes h =
-    let n = number_at width at bytes in
-    ap (λ c. cond c (cond (nat_le least n && nat_le n most) None (Some at)) (Some (length bytes))) (not_leb (at + width) (length bytes) h)
+-- a number that is not whole has the place of bytes that are not whole
+pub number_part : (at width least most : ℕ) (bytes : List ℕ) (e : GetError) → IsPlace (part at width bytes) e → IsPlace (number at width least most bytes) e
+unfolding part number
+number_part at width least most bytes NoMemory h = tt
+number_part at width least most bytes (NotAChange place) h = by (nat_le (at + width) (length bytes)) h
+  where
+    by : (b : Bool) → cond b None (Some (length bytes)) ≡ Some place → cond b (cond (nat_le least (number_at width at bytes) && nat_le (number_at width at bytes) most) None (Some at)) (Some (length bytes)) ≡ Some place
+    by true k = cc
+    by false k = k
 
 -- what is known of a number that keeps its range
 pub record IsRight (at width least most : ℕ) (bytes : List ℕ) : Type 0 where

@@ -1,9 +1,9 @@
 //! Fields that are appended to a list of bytes with room for them.
 
-ghost use Rattle.std.specs.Prelude.{◌≡◌, ℕ, ◌+◌, ◌≤◌, ◌<◌, ◌++◌, length, flat_map, true, vec_len, vec_capacity};
+ghost use Rattle.std.specs.Prelude.{◌≡◌, ◌+◌, ◌≤◌, ◌<◌, ◌++◌, length, flat_map, true, vec_capacity};
 ghost use Rattle.std.specs.List.{list_all};
 ghost use Rattle.disk_areas.specs.Numbers.{number_bytes};
-ghost use Rattle.voice_model.specs.Spelling.{piece_bytes, pieces_bytes, text_bytes, pair_bytes, fits, is_key};
+ghost use Rattle.voice_model.specs.Spelling.{piece_bytes, text_bytes, pair_bytes, fits};
 ghost use Rattle.change_codec.specs.Widths.{bytes_of};
 
 use disk_areas::{append, append_1, append_2, append_4, append_8};

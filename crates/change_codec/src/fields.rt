@@ -1,7 +1,6 @@
 //! Numbers in a payload, with their ranges.
 
-ghost use Rattle.std.specs.Prelude.{◌≡◌, ℕ, ◌+◌, ◌≤◌, ◌^◌, length, None, IfOk, IfErr, MatchResult};
-ghost use Rattle.voice_units.specs.Spots.{slice};
+ghost use Rattle.std.specs.Prelude.{◌≡◌, ◌⊎◌, ◌+◌, ◌<◌, ◌≤◌, ◌^◌, length, None, IfOk, MatchResult};
 ghost use Rattle.disk_areas.specs.Numbers.{number_at};
 ghost use Rattle.change_codec.specs.Refused.{number, part, behind, IsPlace};
 
@@ -42,8 +41,21 @@ pub fn end_at(bytes: &[u8], at: usize) -> Result<(), GetError>
     Ok(())
 }
 
+// Tests that the number at a place lies in its range.
+fn range_at(at: usize, n: u64, least: u64, most: u64) -> Result<(), GetError>
+    ensures { MatchResult result (λ _. (least ≤ n) × (n ≤ most)) (λ e. (e ≡ GetError.NotAChange at) × ((n < least) ⊎ (most < n))) }
+{
+    if n < least {
+        return Err(GetError::NotAChange(at as u64));
+    }
+    if n > most {
+        return Err(GetError::NotAChange(at as u64));
+    }
+    Ok(())
+}
+
 // The number in the byte at a place.
-#[tactic(auto, using(crate::proofs::Places::number_short, crate::proofs::Places::number_low, crate::proofs::Places::number_high, crate::proofs::Places::number_right))]
+#[tactic(auto, using(crate::proofs::Places::number_part, crate::proofs::Places::number_out, crate::proofs::Places::number_right))]
 pub fn number_1(bytes: &[u8], at: usize, least: u8, most: u8) -> Result<u8, GetError>
     requires within { at ≤ length bytes.now }
     ensures place { MatchResult result (λ _. number at 1 least most bytes.now ≡ None) (λ e. IsPlace (number at 1 least most bytes.now) e) }
@@ -51,21 +63,14 @@ pub fn number_1(bytes: &[u8], at: usize, least: u8, most: u8) -> Result<u8, GetE
     ensures range { IfOk result (λ n. (least ≤ n) × (n ≤ most)) }
     ensures within { IfOk result (λ _. at + 1 ≤ length bytes.now) }
 {
-    if bytes.len() < at + 1 {
-        return Err(GetError::NotAChange(bytes.len() as u64));
-    }
+    part_at(bytes, at, 1)?;
     let n = read_1(bytes, at);
-    if n < least {
-        return Err(GetError::NotAChange(at as u64));
-    }
-    if n > most {
-        return Err(GetError::NotAChange(at as u64));
-    }
+    range_at(at, u64::from(n), u64::from(least), u64::from(most))?;
     Ok(n)
 }
 
 // The number in the 2 bytes from a place on.
-#[tactic(auto, using(crate::proofs::Places::number_short, crate::proofs::Places::number_low, crate::proofs::Places::number_high, crate::proofs::Places::number_right))]
+#[tactic(auto, using(crate::proofs::Places::number_part, crate::proofs::Places::number_out, crate::proofs::Places::number_right))]
 pub fn number_2(bytes: &[u8], at: usize, least: u16, most: u32) -> Result<u16, GetError>
     requires within { at ≤ length bytes.now }
     ensures place { MatchResult result (λ _. number at 2 least most bytes.now ≡ None) (λ e. IsPlace (number at 2 least most bytes.now) e) }
@@ -73,21 +78,14 @@ pub fn number_2(bytes: &[u8], at: usize, least: u16, most: u32) -> Result<u16, G
     ensures range { IfOk result (λ n. (least ≤ n) × (n ≤ most)) }
     ensures within { IfOk result (λ _. at + 2 ≤ length bytes.now) }
 {
-    if bytes.len() < at + 2 {
-        return Err(GetError::NotAChange(bytes.len() as u64));
-    }
+    part_at(bytes, at, 2)?;
     let n = read_2(bytes, at);
-    if n < least {
-        return Err(GetError::NotAChange(at as u64));
-    }
-    if u32::from(n) > most {
-        return Err(GetError::NotAChange(at as u64));
-    }
+    range_at(at, u64::from(n), u64::from(least), u64::from(most))?;
     Ok(n)
 }
 
 // The number in the 4 bytes from a place on.
-#[tactic(auto, using(crate::proofs::Places::number_short, crate::proofs::Places::number_low, crate::proofs::Places::number_high, crate::proofs::Places::number_right))]
+#[tactic(auto, using(crate::proofs::Places::number_part, crate::proofs::Places::number_out, crate::proofs::Places::number_right))]
 pub fn number_4(bytes: &[u8], at: usize, least: u64, most: u64) -> Result<u32, GetError>
     requires within { at ≤ length bytes.now }
     ensures place { MatchResult result (λ _. number at 4 least most bytes.now ≡ None) (λ e. IsPlace (number at 4 least most bytes.now) e) }
@@ -95,21 +93,14 @@ pub fn number_4(bytes: &[u8], at: usize, least: u64, most: u64) -> Result<u32, G
     ensures range { IfOk result (λ n. (least ≤ n) × (n ≤ most)) }
     ensures within { IfOk result (λ _. at + 4 ≤ length bytes.now) }
 {
-    if bytes.len() < at + 4 {
-        return Err(GetError::NotAChange(bytes.len() as u64));
-    }
+    part_at(bytes, at, 4)?;
     let n = read_4(bytes, at);
-    if u64::from(n) < least {
-        return Err(GetError::NotAChange(at as u64));
-    }
-    if u64::from(n) > most {
-        return Err(GetError::NotAChange(at as u64));
-    }
+    range_at(at, u64::from(n), least, most)?;
     Ok(n)
 }
 
 // The number in the 8 bytes from a place on.
-#[tactic(auto, using(crate::proofs::Places::number_short, crate::proofs::Places::number_low, crate::proofs::Places::number_high, crate::proofs::Places::number_right))]
+#[tactic(auto, using(crate::proofs::Places::number_part, crate::proofs::Places::number_out, crate::proofs::Places::number_right))]
 pub fn number_8(bytes: &[u8], at: usize, least: u64, most: u64) -> Result<u64, GetError>
     requires within { at ≤ length bytes.now }
     ensures place { MatchResult result (λ _. number at 8 least most bytes.now ≡ None) (λ e. IsPlace (number at 8 least most bytes.now) e) }
@@ -117,16 +108,9 @@ pub fn number_8(bytes: &[u8], at: usize, least: u64, most: u64) -> Result<u64, G
     ensures range { IfOk result (λ n. (least ≤ n) × (n ≤ most)) }
     ensures within { IfOk result (λ _. at + 8 ≤ length bytes.now) }
 {
-    if bytes.len() < at + 8 {
-        return Err(GetError::NotAChange(bytes.len() as u64));
-    }
+    part_at(bytes, at, 8)?;
     let n = read_8(bytes, at);
-    if n < least {
-        return Err(GetError::NotAChange(at as u64));
-    }
-    if n > most {
-        return Err(GetError::NotAChange(at as u64));
-    }
+    range_at(at, n, least, most)?;
     Ok(n)
 }
 

@@ -1,9 +1,9 @@
 //! Lists in a payload, item by item to its end.
 
-ghost use Rattle.std.specs.Prelude.{◌≡◌, ℕ, ◌+◌, ◌-◌, ◌/◌, ◌≤◌, ◌<◌, ◌^◌, min, ◌&&◌, ◌==◌, length, Some, None, IfOk, IfErr, MatchResult, if◌then◌else◌};
+ghost use Rattle.std.specs.Prelude.{◌≡◌, ◌+◌, ◌-◌, ◌/◌, ◌≤◌, ◌<◌, ◌^◌, min, ◌&&◌, ◌==◌, length, Some, None, IfOk, MatchResult, if◌then◌else◌};
 ghost use Rattle.disk_areas.specs.Numbers.{number_at};
 ghost use Rattle.change_codec.specs.Widths.{bytes_of};
-ghost use Rattle.change_codec.specs.Refused.{part, pair_place, piece_place, key_place, piece_in, next_id, next_pair, next_piece, addresses_place, ids_place, pairs_place, pieces_place, run_place, past, keys_place, IsPlace};
+ghost use Rattle.change_codec.specs.Refused.{part, pair_place, piece_place, key_place, piece_in, addresses_place, ids_place, pairs_place, pieces_place, run_place, past, keys_place, IsPlace};
 ghost use Rattle.change_codec.specs.Said.{pair_in, key_in, address_values, id_values, pair_values, piece_values, run_values, key_values};
 
 use super::appending::Width;

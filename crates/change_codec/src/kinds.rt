@@ -1,12 +1,11 @@
 //! The fields of each kind of change.
 
-ghost use Rattle.std.specs.Prelude.{◌≡◌, ℕ, ◌+◌, ◌≤◌, ◌<◌, ◌^◌, ◌==◌, true, IsTrue, length, cond, None, IfOk, MatchResult};
-ghost use Rattle.voice_units.specs.Spots.{slice};
+ghost use Rattle.std.specs.Prelude.{◌≡◌, ◌+◌, ◌≤◌, ◌<◌, ◌==◌, true, IsTrue, length, cond, None, IfOk, MatchResult};
 ghost use Rattle.voice_model.specs.State.{class_number};
 ghost use Rattle.disk_areas.specs.Numbers.{number_at};
 ghost use Rattle.voice_model.specs.Spelling.{class_of};
 ghost use Rattle.change_codec.specs.Widths.{bytes_of};
-ghost use Rattle.change_codec.specs.Refused.{number, part, note_part, recorded_place, edited_place, note_place, retained_place, forgotten_place, census_place, swept_place, advanced_place, base_place, file_place, rope_place, rope2_place, IsPlace};
+ghost use Rattle.change_codec.specs.Refused.{number, note_part, recorded_place, edited_place, note_place, retained_place, forgotten_place, census_place, swept_place, advanced_place, base_place, file_place, rope_place, rope2_place, IsPlace};
 ghost use Rattle.change_codec.specs.Said.{key_in, recorded_in, edited_in, retained_in, forgotten_in, census_in, swept_in, advanced_in, base_in, base2_in, file_in, rope_in, rope2_in};
 
 use super::appending::Width;

@@ -1,6 +1,6 @@
 //! The bytes of a change.
 
-ghost use Rattle.std.specs.Prelude.{◌≡◌, ℕ, ◌+◌, ◌≤◌, ◌<◌, ◌^◌, ◌++◌, length, flat_map, true, IsOk, OnOk, OnErr, vec_len, vec_capacity};
+ghost use Rattle.std.specs.Prelude.{◌≡◌, ◌+◌, ◌≤◌, ◌<◌, ◌++◌, length, flat_map, true, IsOk, OnOk, OnErr, vec_len, vec_capacity};
 ghost use Rattle.voice_model.specs.State.{class_number};
 ghost use Rattle.disk_areas.specs.Numbers.{number_bytes};
 ghost use Rattle.voice_model.specs.Spelling.{spelling, keeps_grammar, recorded_bytes, file_bytes, pieces_bytes, text_bytes, is_recording, is_file};

@@ -1,10 +1,10 @@
 -- A bad place is where the first packet begins that is not good.
-use Rattle.std.proofs.Common.{◌≡◌, ℕ, zero, suc, ◌+◌, ◌≤◌, ◌<◌, List, [], ◌∷◌, ◌++◌, length, take, drop, Option, Some, None, refl, ap, sym, subst, ◌∙◌, arith, length-append, length-drop}
+use Rattle.std.proofs.Common.{◌≡◌, ℕ, zero, suc, ◌+◌, ◌≤◌, List, [], ◌∷◌, ◌++◌, length, take, drop, Option, Some, None, refl, ap, sym, subst, ◌∙◌, arith, length-append, length-drop}
 use Rattle.std.proofs.Math.Seq.{take-append-add, drop-append-add}
 use Rattle.change_codec.proofs.Numbers.{AreBytes, bytes_drop}
-use Rattle.mirror_packets.specs.Packets.{Packet, Reading, packet_spelling, IsGoodPacket, AreSpelled, with_packet, from_packet, packet_in, end_of, reading_from, reading_of}
+use Rattle.mirror_packets.specs.Packets.{Packet, Reading, packet_spelling, IsGoodPacket, from_packet, packet_in, end_of, reading_from, reading_of}
 use Rattle.mirror_packets.specs.Laws.{IsFirstBad}
-use Rattle.mirror_packets.proofs.Heads.{in_front, begins, packet_spelled}
+use Rattle.mirror_packets.proofs.Heads.{begins, packet_spelled}
 use Rattle.mirror_packets.proofs.Lists.{read_none, read_one}
 
 -- a bad place of bytes that stand from a place on

@@ -1,8 +1,8 @@
 //! The packets that bytes spell.
 
-ghost use Rattle.std.specs.Prelude.{◌≡◌, ◌+◌, ◌≤◌, length, true, false, option_map, MatchOption, IfOk, IfErr};
+ghost use Rattle.std.specs.Prelude.{◌≡◌, ◌+◌, true, false, option_map, IfOk, IfErr};
 ghost use Rattle.voice_model.specs.Spelling.{change_in};
-ghost use Rattle.mirror_packets.specs.Packets.{is_followed, voice_in, brought, body_in, is_head, end_of, reading_of, Reading, AreSpelled};
+ghost use Rattle.mirror_packets.specs.Packets.{is_followed, voice_in, brought, body_in, reading_of, Reading, AreSpelled};
 ghost use Rattle.mirror_packets.specs.Shown.{body_of, packets_of, IsHead, IsFound, IsNoPacket, IsBad};
 
 use crate::{Body, Packet, PacketError};

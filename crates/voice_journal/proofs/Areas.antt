@@ -27,16 +27,24 @@ pub area_within : (shape : Shape) (second : Bool) → area_start shape second + 
 area_within shape true = omega arith
 area_within shape false = omega arith
 
-pub reads_opened : (image area : List ℕ) (shape : Shape) (second : Bool) (epoch : ℕ) (rs : Records) → extent shape ≤ length image → journal_in image ≡ by_head shape image (current_head shape image)
-    → current_head shape image ≡ Some (head_of shape second epoch) → area ≡ segment image (area_start shape second) shape.area → records_from (length area) (length area) 16 (drop 16 area) ≡ rs
+-- what the heads of an image say of its areas, and the bytes of the current one
+pub record IsArea (image area : List ℕ) (shape : Shape) (second is_closed : Bool) (epoch : ℕ) : Type 0 where
+  pub fits : extent shape ≤ length image
+  pub shape_is : journal_in image ≡ by_head shape image (current_head shape image)
+  pub head : current_head shape image ≡ Some (head_of shape second epoch)
+  pub other : IsOther is_closed (area_start shape (not second)) image epoch
+  pub area_is : area ≡ segment image (area_start shape second) shape.area
+
+pub reads_opened : (image area : List ℕ) (shape : Shape) (second is_closed : Bool) (epoch : ℕ) (rs : Records) → IsArea image area shape second is_closed epoch → records_from (length area) (length area) 16 (drop 16 area) ≡ rs
     → journal_in image ≡ by_records shape (head_of shape second epoch) rs
-reads_opened image area shape second epoch rs fits value head is read =
+reads_opened image area shape second is_closed epoch rs is read =
     let h : Head = head_of shape second epoch in
     let within = area_within shape second in
+    let fits = is.fits in
     let least = shape.conditions.area_least in
-    let size : length area ≡ shape.area = ap length is ∙ length-segment image (area_start shape second) shape.area in
-    value ∙ ap (λ (o : Option Head). by_head shape image o) head
-    ∙ ap (λ (l : List ℕ). by_records shape h (records_from shape.area shape.area 16 l)) (area_records image area (area_start shape second) shape.area (omega (arith, within, fits)) (omega (arith, least)) is)
+    let size : length area ≡ shape.area = ap length is.area_is ∙ length-segment image (area_start shape second) shape.area in
+    is.shape_is ∙ ap (λ (o : Option Head). by_head shape image o) is.head
+    ∙ ap (λ (l : List ℕ). by_records shape h (records_from shape.area shape.area 16 l)) (area_records image area (area_start shape second) shape.area (omega (arith, within, fits)) (omega (arith, least)) is.area_is)
     ∙ ap (λ (n : ℕ). by_records shape h (records_from n n 16 (drop 16 area))) (sym size)
     ∙ ap (λ (x : Records). by_records shape h x) read
 

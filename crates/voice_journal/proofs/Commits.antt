@@ -47,12 +47,15 @@ module _ (w v : JournalValue) (same : w ≡ v) (d : Doubt) (old new : Told) (r s
   pub commit_crashes : Leaves old new (WithinLand r s old)
   commit_crashes = commit_crash old new r s (closed_after w.is_closed d) place each low within wrote
 
-  pub commit_lands : new.may_leave new.calls new.bytes → IsSettled place (1 ∷ []) new → Stands (after w d) new s
-  commit_lands present done = record {
-    at = record { shape_is = here.next.shape_is; start = here.next.start; epoch = here.next.epoch; gate = here.next.gate };
-    sure = refl;
-    each = commit_landed old new r s (closed_after w.is_closed d) place each low within wrote present done;
-  }
+  -- it lands what `d` says, however that is written
+  pub commit_lands : (e : Doubt) → d ≡ e → new.may_leave new.calls new.bytes → IsSettled place (1 ∷ []) new → Stands (after w e) new s
+  commit_lands e is present done =
+      let lands : Stands (after w d) new s = record {
+        at = record { shape_is = here.next.shape_is; start = here.next.start; epoch = here.next.epoch; gate = here.next.gate };
+        sure = refl;
+        each = commit_landed old new r s (closed_after w.is_closed d) place each low within wrote present done;
+      } in
+      subst (λ (x : Doubt). Stands (after w x) new s) is lands
 
 -- a frame's write
 module _ (w v : JournalValue) (same : w ≡ v) (old new : Told) (r : Journal) (p bytes : List ℕ) (from : ℕ) (at : from ≡ area_start w.shape w.seat.second + w.seat.gate + 1) (spelled : bytes ≡ frame p)

@@ -1,6 +1,6 @@
 //! The heads of the two areas.
 
-ghost use Rattle.std.specs.Prelude.{◌≡◌, ◌+◌, ◌≤◌, ◌^◌, ℕ, List, length, not, true, false, MatchOption, IfSome, Some, None};
+ghost use Rattle.std.specs.Prelude.{◌≡◌, ◌≤◌, ◌^◌, ℕ, List, not, true, false, MatchOption, IfSome, Some, None};
 ghost use Rattle.voice_units.specs.declared.shapes.Shape.{Shape};
 ghost use Rattle.disk_areas.specs.Numbers.{number_at};
 ghost use Rattle.disk_areas.specs.Areas.{is_head, current_head};

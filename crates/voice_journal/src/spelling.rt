@@ -1,7 +1,6 @@
 //! The bytes that are written to an area.
 
-ghost use Rattle.std.specs.Prelude.{◌≡◌, ◌+◌, ◌≤◌, ◌<◌, ◌^◌, ◌++◌, ◌∷◌, [], length, take, replicate};
-ghost use Rattle.disk_areas.specs.Numbers.{number_bytes};
+ghost use Rattle.std.specs.Prelude.{◌≡◌, ◌+◌, ◌≤◌, ◌<◌, ◌^◌, ◌++◌, ◌∷◌, [], length, take};
 ghost use Rattle.voice_journal.specs.Readings.{frame, frames, framed_size, views};
 ghost use Rattle.voice_journal.specs.Spelled.{area_bytes};
 

@@ -1,6 +1,6 @@
 //! Reads and spells the superblock.
 
-ghost use Rattle.std.specs.Prelude.{◌≡◌, ◌+◌, ◌≤◌, ◌<◌, ◌^◌, ◌++◌, ℕ, List, length, take, replicate, cond, MatchResult, IfOk, if◌then◌else◌, ◌==◌};
+ghost use Rattle.std.specs.Prelude.{◌≡◌, ◌+◌, ◌≤◌, ◌<◌, ◌^◌, ◌++◌, length, take, replicate, cond, MatchResult, IfOk, ◌==◌};
 ghost use Rattle.std.specs.List.{list_all};
 ghost use Rattle.disk_areas.specs.Areas.{graces_in, superblock_end, superblock, graces_by_class};
 ghost use Rattle.voice_journal.specs.Readings.{extent};

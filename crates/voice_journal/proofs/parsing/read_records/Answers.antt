@@ -1,4 +1,4 @@
-use Rattle.std.proofs.Common.{rules, ◌≡◌, ◌+◌, ◌-◌, ◌<◌, ◌≤◌, ℕ, List, [], length, take, drop, refl, sym, ap, ◌∙◌, subst, arith}
+use Rattle.std.proofs.Common.{rules, ◌≡◌, ◌+◌, ◌<◌, ◌≤◌, ℕ, List, [], length, refl, sym, subst, arith}
 use Rattle.voice_journal.specs.declared.lists.Span.{Span}
 use Rattle.voice_journal.proofs.Stepping.{IsReading, begin, ended, refused, gone}
 use Rattle.voice_journal.proofs.parsing.read_records.Goals as goal

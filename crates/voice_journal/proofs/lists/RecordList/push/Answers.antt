@@ -1,6 +1,6 @@
-use Rattle.std.proofs.Common.{rules, ◌≡◌, ◌+◌, ◌≤◌, ◌++◌, ◌∷◌, [], ℕ, List, length, take, drop, length-append, sym, ap, ◌∙◌, subst, arith, refl}
+use Rattle.std.proofs.Common.{rules, ◌≡◌, ◌++◌, ◌∷◌, [], ℕ, List, length, take, drop, length-append, sym, ap, ◌∙◌, subst, arith}
 use Rattle.disk_areas.specs.Areas.{Record}
-use Rattle.voice_journal.specs.Lent.{record_in, lent, AreWithin}
+use Rattle.voice_journal.specs.Lent.{lent, AreWithin}
 use Rattle.voice_journal.specs.Readings.{record_at}
 use Rattle.voice_journal.specs.declared.lists.Span.{Span}
 use Rattle.voice_journal.proofs.Steps.{on_err}
