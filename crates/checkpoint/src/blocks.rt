@@ -40,9 +40,8 @@ fn note_pieces(noted: &mut BTreeSet<BlockName>, block: u32, pieces: &Pieces) -> 
             return Ok(());
         };
         let file = piece.file;
-        let first = piece.from / block;
-        let last = (piece.from + piece.len - 1) / block;
-        for index in first..last + 1 {
+        let blocks = piece.blocks(block);
+        for index in blocks.start..blocks.end {
             note(noted, file, index)?;
         }
     }

@@ -6,8 +6,8 @@ use Rattle.std.proofs.lemmas.Bool.{eqb-true, eqb-false, eq-eqb, ne_eqb}
 use Rattle.std.proofs.lemmas.List.{take_more}
 use Rattle.voice_units.specs.declared.Piece.{Piece}
 use Rattle.voice_units.specs.Spots.{Spot, spots_from, spots_in, spots_of, comes_before, lone, longer, in_front, runs, begins_block, stretches, IsContinued, IsNormal}
+use Rattle.voice_units.proofs.Runs.{div_grows}
 use Rattle.rope_table.proofs.InOrder.{split}
-use Rattle.rope_table.proofs.Blocks.{div_grows}
 
 -- how many blocks pieces have, counted piece by piece
 abbrev pub spans : ℕ → List Piece → ℕ

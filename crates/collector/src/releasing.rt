@@ -50,9 +50,8 @@ pub fn drop_unused<L: Ledger>(
             return;
         };
         let file = piece.file;
-        let first = piece.from / block;
-        let last = (piece.from + piece.len - 1) / block;
-        for index in first..last + 1 {
+        let indexes = piece.blocks(block);
+        for index in indexes.start..indexes.end {
             steps.tick();
             drop_if_unused(table, blocks, file, index);
         }

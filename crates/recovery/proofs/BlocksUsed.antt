@@ -1,58 +1,32 @@
 -- The blocks of pieces, one after another.
-use Rattle.std.proofs.Common.{◌≡◌, ℕ, zero, suc, ◌+◌, ◌-◌, ◌*◌, ◌/◌, ◌%◌, ◌≤◌, ◌<◌, ◌^◌, ◌==◌, nat_lt, Bool, true, false, not, nat_le, cond, ◌&&◌, ◌||◌, List, [], ◌∷◌, length, refl, sym, ◌∙◌, ap, subst, arith}
+use Rattle.std.proofs.Common.{◌≡◌, ℕ, zero, suc, ◌+◌, ◌/◌, ◌≤◌, ◌<◌, ◌^◌, ◌==◌, nat_lt, Bool, true, false, not, nat_le, cond, ◌&&◌, ◌||◌, List, [], ◌∷◌, length, refl, sym, ◌∙◌, ap, subst, arith}
 use Rattle.std.specs.List.{list_all}
-use Rattle.std.proofs.Math.Nat.{div-eq_of_lt-le, div-mul-le_self}
-use Rattle.std.proofs.lemmas.Nat.{le-div}
-use Rattle.std.proofs.lemmas.Bool.{eqb-true, eq-eqb, ltb-true, leb-true}
+use Rattle.std.proofs.lemmas.Bool.{eqb-true, eq-eqb, leb-true, false≢true}
 use Rattle.voice_units.specs.Spots.{spots_from, spots_of}
 use Rattle.std.specs.Prelude.{filter}
-use Rattle.voice_units.specs.Blocks.{BlockPair, pairs_at, same_pair, has_pair, distinct}
+use Rattle.voice_units.specs.Blocks.{BlockPair, pairs_at, same_pair, has_pair, distinct, in_run}
 use Rattle.voice_units.specs.declared.pieces.Piece.{Piece}
-use Rattle.voice_units.proofs.Distinct.{has_pair-distinct}
+use Rattle.voice_units.proofs.Distinct.{has_pair-distinct, same_pair-true}
 use Rattle.voice_units.proofs.PiecesOfRopes.{both}
+use Rattle.voice_units.proofs.Runs.{div_grows}
 use Rattle.voice_model.specs.Spelling.{is_piece, are_apart, are_pieces}
 use Rattle.voice_model.proofs.PlacesKept.{same_itself}
 use Rattle.voice_units.specs.Spots.{samples_in, IsContinued, IsNormal}
 use Rattle.rope_algebra.specs.Kept.{LieInFiles, IsRope}
-use Rattle.rope_table.specs.Table.{uses_in}
+use Rattle.rope_table.specs.Table.{uses_in, pair_of}
+use Rattle.rope_table.proofs.Blocks.{no_run, run_more}
+use Rattle.rope_table.proofs.InOrder.{split}
 
--- a later place in front of the next block lies in the same block
-pub same_block : (block at x : ℕ) → 1 ≤ block → at ≤ x → x < at - at % block + block → x / block ≡ at / block
-same_block block at x some low high =
-    let whole : at / block * block + at % block ≡ at = grind arith in
-    let up : (at / block + 1) * block ≡ at / block * block + block = grind arith in
-    div-eq_of_lt-le block (omega (arith, whole, low)) (omega (arith, whole, up, high))
+-- no block has an index from one up to the same
+pub none_in_run : (file first : ℕ) (q : BlockPair) → ¬ (in_run file first first q ≡ true)
+none_in_run file first q e = absurd (false≢true (sym (no_run file first q false) ∙ e))
 
-pub each_passes : (p : BlockPair → Bool) (block file from n : ℕ) → ((x : ℕ) → from ≤ x → x < from + n → p (record { file = file; index = x / block }) ≡ true) → list_all p (pairs_at block (spots_from file from n)) ≡ true
-each_passes p block file from zero h = refl
-each_passes p block file from (suc n) h =
-    ap (λ b. b && list_all p (pairs_at block (spots_from file (from + 1) n))) (h from (omega arith) (omega arith))
-    ∙ each_passes p block file (from + 1) n (λ x low high. h x (omega (arith, low)) (omega (arith, high)))
+-- a block of a run with an index more is of the run, or has that index
+pub in_longer_run : {P : Type 0} (file first index : ℕ) (q : BlockPair) → first ≤ index → in_run file first (index + 1) q ≡ true → (in_run file first index q ≡ true → P) → (pair_of file index ≡ q → P) → P
+in_longer_run file first index q le e within last = split (in_run file first index q) within
+    (λ f. last (same_pair-true (pair_of file index) q (sym (ap (λ b. b || same_pair (pair_of file index) q) f) ∙ run_more file first index q false le ∙ e)))
 
-and_false : (a : Bool) → (a && false) ≡ false
-and_false true = refl
-and_false false = refl
-
-pub one_fails : (p : BlockPair → Bool) (block file from n x : ℕ) → from ≤ x → x < from + n → p (record { file = file; index = x / block }) ≡ false → list_all p (pairs_at block (spots_from file from n)) ≡ false
-one_fails p block file from zero x low high e = absurd (omega (arith, low, high))
-one_fails p block file from (suc n) x low high e =
-    first_or (from == x) refl (λ apart. one_fails p block file (from + 1) n x (omega (arith, low, apart)) (omega (arith, high)) e)
-  where
-    rest : List BlockPair
-    rest = pairs_at block (spots_from file (from + 1) n)
-
-    first_or : (b : Bool) → (from == x) ≡ b → (¬ (from ≡ x) → list_all p rest ≡ false) → list_all p (pairs_at block (spots_from file from (suc n))) ≡ false
-    first_or true k later = ap (λ b. b && list_all p rest) (ap (λ y. p (record { file = file; index = y / block })) (eqb-true from x k) ∙ e)
-    first_or false k later =
-        ap (λ b. p (record { file = file; index = from / block }) && b) (later (λ same. let bad : true ≡ false = sym (eq-eqb from x same) ∙ k in cc)) ∙ and_false (p (record { file = file; index = from / block }))
-
-pub either_side : (P : Type 0) (x at : ℕ) → (x < at → P) → (at ≤ x → P) → P
-either_side P x at below above = by_test (nat_lt x at) refl
-  where
-    by_test : (b : Bool) → nat_lt x at ≡ b → P
-    by_test true e = below (ltb-true x at e)
-    by_test false e = above (grind (arith, e))
-
+-- tests that agree pass the same lists
 pub same_all : {A : Type 0} (p q : A → Bool) → ((x : A) → p x ≡ q x) → (xs : List A) → list_all p xs ≡ list_all q xs
 same_all p q same [] = refl
 same_all p q same (x ∷ xs) = ap (λ b. b && list_all p xs) (same x) ∙ ap (λ b. q x && b) (same_all p q same xs)
@@ -107,8 +81,7 @@ few_blocks test block file from (suc n) top some high =
     (λ same. let most = there_already (test first) first (filter test rest) (λ h. kept_first test first (record { file = file; index = (from + 1) / block }) (pairs_at block (spots_from file (from + 1 + 1) n)) (ap (λ i. let x : BlockPair = record { file = file; index = i } in x) same) h) in omega (arith, most, later, same))
     (λ apart.
     let most = kept_more (test first) first (filter test rest) in
-    let down = div-mul-le_self from block in
-    let grows : from / block ≤ (from + 1) / block = le-div (from / block) (from + 1) block (omega (arith, some)) (omega (arith, down)) in
+    let grows = div_grows from (from + 1) block (omega (arith, some)) (omega arith) in
     omega (arith, most, later, apart, grows))
 
 -- ---- limits

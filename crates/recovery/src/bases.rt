@@ -53,15 +53,11 @@ fn is_piece_placed(blocks: &BlockMap, block: u32, piece: &Piece) -> bool
     requires { 8 ≤ block }
     ensures { (places : List Placed) → HoldsPlaces blocks.now.holders places → result ≡ list_all (has_place places) (pairs_at block (spots_in piece.now)) }
 {
-    let block = u64::from(block);
-    let end = u64::from(piece.from) + u64::from(piece.len);
-    let mut at = u64::from(piece.from);
-    while at < end {
-        let index = (at / block) as u32;
+    let indexes = piece.blocks(block);
+    for index in indexes.start..indexes.end {
         if blocks.address(Owner::File(piece.file), index).is_none() {
             return false;
         }
-        at = at - at % block + block;
     }
     true
 }

@@ -52,9 +52,8 @@ fn note_pieces(
             return Ok(());
         };
         let file = piece.file;
-        let first = piece.from / block;
-        let last = (piece.from + piece.len - 1) / block;
-        for index in first..last + 1 {
+        let blocks = piece.blocks(block);
+        for index in blocks.start..blocks.end {
             note(noted, table, file, index)?;
         }
     }

@@ -1,14 +1,8 @@
-use Rattle.std.proofs.Common.{◌≡◌, ℕ, List, ◌-◌, ◌/◌, ◌≤◌, ◌<◌, true}
+use Rattle.std.proofs.Common.{◌≡◌, List, true}
+use Rattle.voice_units.specs.Blocks.{BlockPair, in_run}
 use Rattle.voice_model.specs.Replay.{Placed, has_place}
-use Rattle.rope_table.specs.Table.{pair_of}
 use Rattle.recovery.specs.Placing.{HoldsPlaces}
 use Rattle.recovery.proofs.bases.is_piece_placed.Given as goal
 
-abbrev pub invariant-loop-at : goal.invariant-loop-at
-invariant-loop-at l = record {
-  low : l.piece.from ≤ l.at;
-  placed : (places : List Placed) → HoldsPlaces l.blocks.holders places → (x : ℕ) → l.piece.from ≤ x → x < l.at → x < l.end → has_place places (pair_of l.piece.file (x / l.block)) ≡ true;
-}
-
-abbrev pub decreases-loop-at : goal.decreases-loop-at
-decreases-loop-at l = l.end - l.at
+abbrev pub invariant-loop-index : goal.invariant-loop-index
+invariant-loop-index l = (places : List Placed) → HoldsPlaces l.blocks.holders places → (q : BlockPair) → in_run l.piece.file l.initial.index l.index q ≡ true → has_place places q ≡ true
