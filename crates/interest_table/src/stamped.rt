@@ -204,8 +204,7 @@ impl StampedRows {
 
     /// Makes room for n more rows. It takes no memory where that room is there.
     pub(crate) fn reserve(&mut self, n: usize) -> Result<(), NoMemory>
-        ensures names { stamp_of self.new ≡ stamp_of self.old }
-        ensures at { row_of self.new ≡ row_of self.old }
+        ensures same { IsSame self.old self.new }
         ensures room { OnOk result (n ≤ self.new.spare) }
         ensures spare { self.old.spare ≤ self.new.spare }
         ensures succeeds { n ≤ self.old.spare → IsOk result }

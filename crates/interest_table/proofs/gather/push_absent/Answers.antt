@@ -10,7 +10,7 @@ loop-stamp-preserved c =
     let at = row_of c.args.rows.now in
     let ss = c.args.stamps.now in
     let row = c.in-Some.row.now in
-    let own : kept at (get_or ss c.loop-stamp.stamp-index 0) ≡ row = row_kept at (get_or ss c.loop-stamp.stamp-index 0) row (sym c.in-Some.ensures.value) in
+    let own : kept at (get_or ss c.loop-stamp.stamp-index 0) ≡ row = row_kept at (get_or ss c.loop-stamp.stamp-index 0) row (sym c.in-Some.ensures) in
     let room : length c.loop-stamp.keys.items + 1 ≤ 65535 = search rules in
     let long : length c.push.new.self.items ≡ length c.loop-stamp.keys.items + 1 = search rules in
     record {

@@ -5,5 +5,5 @@ use Rattle.interest_table.proofs.gather.ropes_under.Goals as goal
 pub loop-stamp-preserved-in_default : goal.loop-stamp-preserved-in_default
 loop-stamp-preserved-in_default c = λ h.
     let there = kept_at (row_of c.args.rows.now) c.args.stamps.now c.loop-stamp.stamp-index 0 h c.loop-stamp-test.true in
-    let none = c.in_default.ensures.value in
+    let none = c.in_default.ensures in
     cc

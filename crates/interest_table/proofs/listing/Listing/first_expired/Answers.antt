@@ -10,11 +10,11 @@ returns-in_default-clause-none c =
     subst (λ l. filter (λ e. not (is_expired c.args.now e.1)) l.entries ≡ l.entries) c.self.view_is
     (none_first_row (stamp_of c.self.inside.rows) (row_of c.self.inside.rows) c.self.inside.order.items c.self.inside.expiries.items c.self.inside.listed.items c.self.inside.next c.args.now c.first_due.ensures.moment c.self.invariant c.in_default.ensures.none)
 
-pub returns-in_default-get-clause-none : goal.returns-in_default-get-clause-none
-returns-in_default-get-clause-none c =
-    first_there (stamp_of c.self.inside.rows) (row_of c.self.inside.rows) c.self.inside.order.items c.self.inside.expiries.items c.self.inside.listed.items c.self.inside.next c.args.now c.in-Some.stamp _ c.self.invariant c.in-Some.ensures.some c.in_default-get.ensures.value
+pub returns-in_default-row-clause-none : goal.returns-in_default-row-clause-none
+returns-in_default-row-clause-none c =
+    first_there (stamp_of c.self.inside.rows) (row_of c.self.inside.rows) c.self.inside.order.items c.self.inside.expiries.items c.self.inside.listed.items c.self.inside.next c.args.now c.in-Some.stamp _ c.self.invariant c.in-Some.ensures.some c.in_default-row.ensures
 
 pub returns-clause-some : goal.returns-clause-some
 returns-clause-some c =
-    subst (λ l. (is_expired c.args.now c.in-Some-get.row.now ≡ true) × (row_at (map row_in l.entries) c.in-Some-get.row.now.class c.in-Some-get.row.now.key ≡ Some c.in-Some-get.row.now)) c.self.view_is
-    (first_row (stamp_of c.self.inside.rows) (row_of c.self.inside.rows) c.self.inside.order.items c.self.inside.expiries.items c.self.inside.listed.items c.self.inside.next c.args.now c.in-Some.stamp c.in-Some-get.row.now c.self.invariant c.in-Some.ensures.some c.in-Some-get.ensures.value)
+    subst (λ l. (is_expired c.args.now c.in-Some-row.row.now ≡ true) × (row_at (map row_in l.entries) c.in-Some-row.row.now.class c.in-Some-row.row.now.key ≡ Some c.in-Some-row.row.now)) c.self.view_is
+    (first_row (stamp_of c.self.inside.rows) (row_of c.self.inside.rows) c.self.inside.order.items c.self.inside.expiries.items c.self.inside.listed.items c.self.inside.next c.args.now c.in-Some.stamp c.in-Some-row.row.now c.self.invariant c.in-Some.ensures.some c.in-Some-row.ensures)
