@@ -10,13 +10,10 @@ use Rattle.voice_model.specs.State.{class_number, row_at}
 use Rattle.voice_model.specs.Changes.{is_expired}
 use Rattle.voice_model.specs.declared.calls.Row.{Row}
 use Rattle.voice_model.specs.declared.calls.Class.{Class}
-use Rattle.std.specs.Map.{lookup}
-use Rattle.indexmap.specs.IndexMap as index
-use Rattle.interest_table.specs.declared.listing.RowName.{RowName}
 use Rattle.interest_table.specs.declared.expiries.Expiry.{Expiry}
-use Rattle.interest_table.specs.Inside.{stamp_at, IsTimed, no_row, kept, entry_of, row_in, AllKept, is_due, place, place_of, among, without, listed_of, Rises, AllFit, AreOrdered, IsDated, IsEntered, IsTaken, IsGained, IsLost, Leads, NoneDue, stamps_due, Grows, times}
+use Rattle.interest_table.specs.Inside.{Stamped, stamp_at, stamp_of, row_under, row_of, IsSame, IsTimed, no_row, kept, entry_of, row_in, AllKept, is_due, place, place_of, among, without, listed_of, Rises, AllFit, AreOrdered, IsDated, IsEntered, IsTaken, IsGained, IsLost, Leads, NoneDue, stamps_due, Grows, times}
 use Rattle.interest_table.proofs.Found.{both_ways}
-use Rattle.interest_table.proofs.Listed.{low_absent, was_among, stays_among, last_among, among_push, among_either, own_among, or_true, bool_either, below_top, still_listed, same_list, found_row}
+use Rattle.interest_table.proofs.Listed.{low_absent, was_among, stays_among, last_among, among_push, among_either, own_among, or_true, bool_either, below_top, found_row}
 use Rattle.interest_table.proofs.Dated.{one_place}
 
 -- ---- stamps
@@ -400,17 +397,14 @@ kept_at at [] i d h within = absurd (omega (arith, within))
 kept_at at (s ∷ ss) zero d h within = h.0
 kept_at at (s ∷ ss) (suc i) d h within = kept_at at ss i d h.1 (omega (arith, within))
 
--- the list of parts whose entries are the same
-pub still_timed : {S T : Type 0} (names more : index.IndexMap RowName ℕ S) (rows new : index.IndexMap ℕ Row T) (ts us : List ℕ) (es all : List Expiry) (ls ks : List ℕ) (next : ℕ) → more.entries ≡ names.entries → new.entries ≡ rows.entries → us ≡ ts → all ≡ es → ks ≡ ls → IsTimed (stamp_at names) (index.get nat_eq rows) ts es ls next → IsTimed (stamp_at more) (index.get nat_eq new) us all ks next
-still_timed names more rows new ts us es all ls ks next e f g d k h = record {
-  listing = still_listed names more rows new ts us next e f g h.listing;
-  dated = subst (λ l. IsDated (index.get nat_eq new) us l) (sym d) (subst (λ l. IsDated (index.get nat_eq new) l es) (sym g) (subst (λ l. IsDated (λ s. lookup (nat_eq s) l) ts es) (sym f) h.dated));
-  apart = k ∙ h.apart ∙ sym (λ i. listed_of (λ s. lookup (nat_eq s) (f i)) (g i));
-}
-
--- the list after names changed whose entries did not
-pub same_timed : {S : Type 0} (old new : index.IndexMap RowName ℕ S) (at : ℕ → Option Row) (ts : List ℕ) (es : List Expiry) (ls : List ℕ) (next : ℕ) → new.entries ≡ old.entries → IsTimed (stamp_at old) at ts es ls next → IsTimed (stamp_at new) at ts es ls next
-same_timed old new at ts es ls next same h = record { listing = same_list old new at ts next same h.listing; dated = h.dated; apart = h.apart }
+-- the list of parts that are the same
+pub still_timed : (old new : Stamped) (ts us : List ℕ) (es all : List Expiry) (ls ks : List ℕ) (next : ℕ) → IsSame old new → us ≡ ts → all ≡ es → ks ≡ ls → IsTimed (stamp_of old) (row_of old) ts es ls next → IsTimed (stamp_of new) (row_of new) us all ks next
+still_timed old new ts us es all ls ks next same g d k h =
+    subst (λ l. IsTimed (stamp_of new) (row_of new) us all l next) (sym k)
+    (subst (λ l. IsTimed (stamp_of new) (row_of new) us l ls next) (sym d)
+    (subst (λ l. IsTimed (stamp_of new) (row_of new) l es ls next) (sym g)
+    (subst (λ l. IsTimed (stamp_at l) (row_under l new.places) ts es ls next) (sym same.0)
+    (subst (λ l. IsTimed (stamp_at old.rows) (row_under old.rows l) ts es ls next) (sym same.1) h))))
 
 -- the row that is expired first
 pub first_row : (names : Class → List ℕ → Option ℕ) (at : ℕ → Option Row) (ts : List ℕ) (es : List Expiry) (ls : List ℕ) (next now s : ℕ) (row : Row) → IsTimed names at ts es ls next → Leads now s es → Some row ≡ at s → (is_expired now row ≡ true) × (row_at (map row_in (map (entry_of at) ts)) row.class row.key ≡ Some row)

@@ -8,41 +8,16 @@ use Rattle.voice_model.specs.State.{class_number, is_row, row_at}
 use Rattle.voice_model.specs.declared.calls.Row.{Row}
 use Rattle.voice_model.specs.declared.calls.Class.{Class}
 use Rattle.voice_model.specs.declared.calls.Class.TheVariants.{Held, Until, Listed}
-use Rattle.interest_table.specs.declared.listing.RowName.{RowName}
-use Rattle.interest_table.specs.contracts.listing.RowNamePartialEq.TheImpl as eq_impl
 use Rattle.std.specs.Prelude.{unwrap_or, nat_eq, is_ok, OnOk, Result, Ok, Err}
 use Rattle.indexmap.specs.IndexMap as index
 use Rattle.voice_model.specs.Valid.{Once}
 use Rattle.interest_table.specs.Table.{rows_of}
 use Rattle.interest_table.specs.Inside.{same_name, rows_counted}
 
--- the comparison of names, as derived
-abbrev pub eq_name : RowName → RowName → Bool
-eq_name = (eq_impl.ghosts).eq
-
 pub both_ways : (a b : Bool) → (a ≡ true → b ≡ true) → (b ≡ true → a ≡ true) → a ≡ b
 both_ways true b f g = sym (f refl)
 both_ways false true f g = g refl
 both_ways false false f g = refl
-
-turned : (x y : List ℕ) → bytes_eq x y ≡ bytes_eq y x
-turned x y = both_ways _ _
-    (λ h. let same : x ≡ y = same_text x y (sym h) in ap (bytes_eq y) same ∙ nat_list_eq_equiv.refl y)
-    (λ h. let same : y ≡ x = same_text y x (sym h) in ap (bytes_eq x) same ∙ nat_list_eq_equiv.refl x)
-
-same_names : (a b : Class) (x y : List ℕ) → eq_name (record { class = a; key = x }) (record { class = b; key = y }) ≡ same_name a x b y
-same_names Held Held x y = turned x y
-same_names Held Until x y = refl
-same_names Held Listed x y = refl
-same_names Until Held x y = refl
-same_names Until Until x y = turned x y
-same_names Until Listed x y = refl
-same_names Listed Held x y = refl
-same_names Listed Until x y = refl
-same_names Listed Listed x y = turned x y
-
-pub named_as : (class : Class) (key : List ℕ) (name : RowName) → eq_name (record { class = class; key = key }) name ≡ same_name class key name.class name.key
-named_as class key name = same_names class name.class key name.key
 
 -- ---- a row goes
 

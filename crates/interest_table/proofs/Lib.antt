@@ -7,3 +7,4 @@ pub mod Goes
 pub mod Dated
 pub mod Due
 pub mod Census
+pub mod Placed

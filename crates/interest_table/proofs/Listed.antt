@@ -2,28 +2,14 @@
 use Rattle.std.proofs.Common.{◌≡◌, ℕ, ◌<◌, ◌≤◌, ◌+◌, ◌^◌, suc, zero, List, [], ◌∷◌, ◌++◌, map, filter, length, not, ap, ap₂, ◌∙◌, sym, refl, subst, cond, Bool, true, false, ◌==◌, Option, Some, None, get_or, eq-eqb, arith}
 use Rattle.std.proofs.lemmas.Bool.{eqb-true, ltb-true, lt-ltb}
 use Rattle.std.specs.Prelude.{nat_lt, nat_eq, slice_get, remove, unwrap_or}
-use Rattle.std.specs.Map.{lookup}
 use Rattle.std.specs.List.Sorted.{IsPartitionedBy}
-use Rattle.indexmap.specs.IndexMap as index
 use Rattle.counted_row.specs.Row.{passing}
 use Rattle.voice_model.specs.State.{is_row, row_at}
 use Rattle.voice_model.specs.declared.calls.Row.{Row}
 use Rattle.voice_model.specs.declared.calls.Class.{Class}
-use Rattle.interest_table.specs.declared.listing.RowName.{RowName}
-use Rattle.interest_table.specs.Inside.{no_row, kept, entry_of, row_in, same_name, stamp_at, among, without, Rises, IsListing}
-use Rattle.interest_table.proofs.Found.{eq_name, named_as, both_ways, is_that_row}
+use Rattle.interest_table.specs.Inside.{no_row, kept, entry_of, row_in, same_name, Stamped, stamp_at, stamp_of, row_under, row_of, IsSame, row_found, among, without, Rises, IsListing}
+use Rattle.interest_table.proofs.Found.{both_ways, is_that_row}
 use Rattle.interest_table.proofs.Added.{own_row}
-
--- ---- names
-
-pub stamp_found : {S : Type 0} (names : index.IndexMap RowName ℕ S) (class : Class) (key : List ℕ) → lookup (eq_name (record { class = class; key = key })) names.entries ≡ stamp_at names class key
-stamp_found names class key = λ i. lookup (λ name. named_as class key name i) names.entries
-
--- what is written under a name, as contracts of names see it
-pub renamed : {S : Type 0} (old new : index.IndexMap RowName ℕ S) (class : Class) (key : List ℕ) (w : Option ℕ) → ((q : RowName) → index.get eq_name new q ≡ cond (eq_name (record { class = class; key = key }) q) w (index.get eq_name old q)) → (other : Class) (text : List ℕ) → stamp_at new other text ≡ cond (same_name class key other text) w (stamp_at old other text)
-renamed old new class key w h other text =
-    let q : RowName = record { class = other; key = text } in
-    sym (stamp_found new other text) ∙ h q ∙ ap₂ (λ b o. cond b w o) (named_as class key q) (stamp_found old other text)
 
 -- ---- stamps
 
@@ -209,6 +195,30 @@ module _ (names : Class → List ℕ → Option ℕ) (at : ℕ → Option Row) (
       let in_it = (h.known class key s found).0 in
       (h.stands s in_it).0 ∙ sym (one_named class key s found ts in_it (λ t k. k))
 
+  -- no stamp is found where no row stands
+  pub no_stamp : (class : Class) (key : List ℕ) → row_at (map row_in (map (entry_of at) ts)) class key ≡ None → names class key ≡ None
+  no_stamp class key none = by (names class key) refl
+    where
+      by : (o : Option ℕ) → names class key ≡ o → o ≡ None
+      by None e = refl
+      by (Some s) e = let stands = (h.stands s (h.known class key s e).0).0 in let found = found_row class key s e in cc
+
+  -- the next stamp has no row
+  pub next_unused : at next ≡ None
+  next_unused = by (at next) refl
+    where
+      by : (o : Option Row) → at next ≡ o → o ≡ None
+      by None e = refl
+      by (Some row) e = absurd (omega (arith, below_top next 0 next ts h.rising (h.only next row e)))
+
+  -- the row of a class and key, by its stamp
+  pub row_named : (class : Class) (key : List ℕ) → row_found at (names class key) ≡ row_at (map row_in (map (entry_of at) ts)) class key
+  row_named class key = by (names class key) refl
+    where
+      by : (o : Option ℕ) → names class key ≡ o → row_found at o ≡ row_at (map row_in (map (entry_of at) ts)) class key
+      by None e = sym (not_found class key e)
+      by (Some s) e = found_row class key s e
+
 -- the k-th row is that of the k-th stamp
 pub no_place : (at : ℕ → Option Row) (ts : List ℕ) (k : ℕ) → slice_get ts k ≡ None → slice_get (map row_in (map (entry_of at) ts)) k ≡ None
 no_place at [] k h = refl
@@ -245,6 +255,10 @@ none_left : (b : Bool) (o : Option ℕ) (t : ℕ) → cond b None o ≡ Some t �
 none_left true o t h = cc
 none_left false o t h = (refl, h)
 
+row_left : (b : Bool) (o : Option Row) (row : Row) → cond b None o ≡ Some row → (b ≡ false) × (o ≡ Some row)
+row_left true o row h = cc
+row_left false o row h = (refl, h)
+
 -- the list after a row went
 pub list_left : (names left : Class → List ℕ → Option ℕ) (at new : ℕ → Option Row) (class : Class) (key : List ℕ) (s : ℕ) (ts us : List ℕ) (next : ℕ) → IsListing names at ts next → names class key ≡ Some s
     → ((other : Class) (text : List ℕ) → left other text ≡ cond (same_name class key other text) None (names other text)) → ((t : ℕ) → new t ≡ cond (nat_eq s t) None (at t)) → us ≡ without s ts
@@ -268,6 +282,9 @@ list_left names left at new class key s ts us next h found fewer gone is =
             let there = h.known other text t parts.1 in
             let apart : (s == t) ≡ false = either (s == t) (λ e. sym (same_by_row class key other text (kept at t) (sym (agree t there.0) ∙ e) there.1) ∙ parts.0) in
             (ap (among t) is ∙ stays_among s t ts there.0 apart, ap (is_row other text) (keeps t apart) ∙ there.1);
+        only = λ t row k.
+            let parts = row_left (s == t) (at t) row (sym (gone t) ∙ k) in
+            ap (among t) is ∙ stays_among s t ts (h.only t row parts.1) parts.0;
         limit = h.limit;
       },
       ap (map (entry_of new)) is ∙ entries_left at new class key s ts agree stay,
@@ -308,7 +325,7 @@ list_longer names more at new row ts us s next h none few longer put is one =
     let here : new s ≡ Some row = put s ∙ ap (λ b. cond b (Some row) (at s)) (eq-eqb s s refl) in
     let own : kept new s ≡ row = ap (λ (o : Option Row). unwrap_or o no_row) here in
     let apart : (t : ℕ) → among t ts ≡ true → (s == t) ≡ false = λ t k. below_apart s t (below_top t 0 s ts h.rising k) in
-    let unnamed : names row.class row.key ≡ None = nothing names at ts s h row.class row.key none in (
+    let unnamed : names row.class row.key ≡ None = no_stamp names at ts s h row.class row.key none in (
       record {
         rising = subst (λ n. Rises 0 us n) (sym one) (subst (λ l. Rises 0 l (s + 1)) (sym is) (rises_push 0 s ts h.rising));
         stands = λ t k. bool_either (s == t) _
@@ -329,18 +346,14 @@ list_longer names more at new row ts us s next h none few longer put is one =
             (λ b found.
             let there = h.known other text t found in
             (ap (among t) is ∙ among_push s t ts there.0, ap (is_row other text) (keeps t (apart t there.0)) ∙ there.1));
+        only = λ t other k. bool_either (s == t) _
+            (λ e. let same : s ≡ t = eqb-true s t e in ap (among t) is ∙ subst (λ n. among n (ts ++ s ∷ []) ≡ true) same (last_among s ts))
+            (λ e. ap (among t) is ∙ among_push s t ts (h.only t other (sym (stay t e) ∙ k)));
         limit = omega (arith, few, one);
       },
       ap (map (entry_of new)) is ∙ entries_push at new s row ts here (λ t k. stay t (apart t k)),
     )
   where
-    nothing : (names : Class → List ℕ → Option ℕ) (at : ℕ → Option Row) (ts : List ℕ) (next : ℕ) → IsListing names at ts next → (class : Class) (key : List ℕ) → row_at (map row_in (map (entry_of at) ts)) class key ≡ None → names class key ≡ None
-    nothing names at ts next h class key none = by (names class key) refl
-      where
-        by : (o : Option ℕ) → names class key ≡ o → o ≡ None
-        by None e = refl
-        by (Some s) e = let stands = (h.stands s (h.known class key s e).0).0 in let found = found_row names at ts next h class key s e in cc
-
     turned_name : (row : Row) (other : Class) (text : List ℕ) → same_name row.class row.key other text ≡ true → is_row other text row ≡ true
     turned_name row other text b =
         let that = is_that_row row.class row.key (record { class = other; key = text; rope = 0; note = [] }) b in
@@ -355,15 +368,6 @@ all_listed_stay class key (e ∷ es) h = by (is_row class key e.1) h (all_listed
     by true k rest = cc
     by false k rest = ap (λ l. e ∷ l) (rest k)
 
--- the list after names changed whose entries did not
-pub same_list : {S : Type 0} (old new : index.IndexMap RowName ℕ S) (at : ℕ → Option Row) (ts : List ℕ) (next : ℕ) → new.entries ≡ old.entries → IsListing (stamp_at old) at ts next → IsListing (stamp_at new) at ts next
-same_list old new at ts next same h = subst (λ es. IsListing (λ class key. lookup (λ name. same_name class key name.class name.key) es) at ts next) (sym same) h
-
--- the list of parts whose entries are the same
-pub still_listed : {S T : Type 0} (names more : index.IndexMap RowName ℕ S) (rows new : index.IndexMap ℕ Row T) (ts us : List ℕ) (next : ℕ) → more.entries ≡ names.entries → new.entries ≡ rows.entries → us ≡ ts → IsListing (stamp_at names) (index.get nat_eq rows) ts next → IsListing (stamp_at more) (index.get nat_eq new) us next
-still_listed names more rows new ts us next e f g h =
-    subst (λ es. IsListing (λ class key. lookup (λ name. same_name class key name.class name.key) es) (index.get nat_eq new) us next) (sym e)
-    (subst (λ es. IsListing (stamp_at names) (λ s. lookup (nat_eq s) es) us next) (sym f) (subst (λ l. IsListing (stamp_at names) (index.get nat_eq rows) l next) (sym g) h))
-
-pub still_entries : {T : Type 0} (rows new : index.IndexMap ℕ Row T) (ts us : List ℕ) → new.entries ≡ rows.entries → us ≡ ts → map (entry_of (index.get nat_eq new)) us ≡ map (entry_of (index.get nat_eq rows)) ts
-still_entries rows new ts us f g = λ i. map (entry_of (λ s. lookup (nat_eq s) (f i))) (g i)
+-- the entries of the same rows in the same order
+pub still_entries : (old new : Stamped) (ts us : List ℕ) → IsSame old new → us ≡ ts → map (entry_of (row_of new)) us ≡ map (entry_of (row_of old)) ts
+still_entries old new ts us same g = λ i. map (entry_of (row_under (same.0 i) (same.1 i))) (g i)

@@ -2,7 +2,14 @@
 --     no_row, kept, entry_of      a row that stands for none;  the row of a stamp;  a stamp and its row
 --     row_in      the row of an entry
 --     same_name      whether two classes and keys are the same
---     stamp_at      the stamp under a class and key
+--     stamp_at rows      the stamp under a class and key
+--     stamp_in rows index      the stamp of the row at an index
+--     row_in_place, row_under      the row at an index that was found;  the row under a stamp, by the index of each stamp
+--     row_found at stamp      the row of a stamp that was found
+--     Stamped, stamped_of      rows under stamps, and how many more fit without memory;  those of these parts
+--     stamp_of rows class key, row_of rows stamp      the stamp under a class and key;  the row under a stamp
+--     IsSame old new      the rows, their stamps and places are the same
+--     ArePlaced rows places      each row's stamp has the row's index, and no other stamp has one
 --     among, without      whether a stamp is in a list;  the stamps but for one
 --     AllKept at stamps      each stamp has a row
 --     Rises low stamps top      stamps rise from low on, below top
@@ -30,9 +37,10 @@
 --     IsTold tally rows      a tally tells of these rows
 --     Lost old new gone      a tally lost these rows
 --     IsTable rows tally      what each table keeps
-use Rattle.std.specs.Prelude.{◌≡◌, ℕ, ◌+◌, ◌-◌, ◌<◌, ◌≤◌, ◌^◌, ◌==◌, ◌&&◌, ◌*◌, ◌++◌, min, Bool, true, false, cond, List, [], ◌∷◌, map, filter, take, nat_le, length, Option, Some, None, unwrap_or, bytes_eq}
+use Rattle.std.specs.Prelude.{◌≡◌, ℕ, ◌+◌, ◌-◌, ◌<◌, ◌≤◌, ◌^◌, ◌==◌, ◌&&◌, ◌*◌, ◌++◌, min, Bool, true, false, cond, List, [], ◌∷◌, map, filter, take, nat_le, length, Option, Some, None, unwrap_or, bytes_eq, slice_get}
 use Rattle.std.specs.Prelude.{nat_eq}
 use Rattle.std.specs.Map.{lookup}
+use Rattle.std.specs.Option.{option_map}
 use Rattle.indexmap.specs.IndexMap as index
 use Rattle.counted_row.specs.Row as counted
 use Rattle.voice_model.specs.declared.calls.Row.{Row}
@@ -41,7 +49,7 @@ use Rattle.voice_model.specs.declared.calls.Class.TheVariants.{Held}
 use Rattle.disk_areas.specs.Numbers.{spelled_number}
 use Rattle.voice_model.specs.State.{class_number, is_row}
 use Rattle.voice_model.specs.Valid.{Once}
-use Rattle.interest_table.specs.declared.listing.RowName.{RowName}
+use Rattle.interest_table.specs.declared.stamped.NamedRow.{NamedRow}
 use Rattle.interest_table.specs.declared.expiries.Expiry.{Expiry}
 use Rattle.interest_table.specs.declared.tally.Tally.{Tally}
 use Rattle.interest_table.specs.Table.{Table, rows_of, key_bytes_of, note_bytes_of}
@@ -67,8 +75,53 @@ abbrev pub same_name : Class → List ℕ → Class → List ℕ → Bool
 same_name class key other_class other_key = (class_number other_class == class_number class) && bytes_eq other_key key
 
 -- the stamp under a class and key
-abbrev pub stamp_at : {S : Type 0} → index.IndexMap RowName ℕ S → Class → List ℕ → Option ℕ
-stamp_at names class key = lookup (λ name. same_name class key name.class name.key) names.entries
+abbrev pub stamp_at : List (NamedRow × ℕ) → Class → List ℕ → Option ℕ
+stamp_at rows class key = lookup (λ named. same_name class key named.row.class named.row.key) rows
+
+-- the stamp of the row at an index
+abbrev pub stamp_in : List (NamedRow × ℕ) → ℕ → Option ℕ
+stamp_in rows i = option_map (λ e. e.1) (slice_get rows i)
+
+-- the row at an index that was found
+abbrev pub row_in_place : List (NamedRow × ℕ) → Option ℕ → Option Row
+row_in_place rows None = None
+row_in_place rows (Some i) = option_map (λ e. e.0.row) (slice_get rows i)
+
+-- the row under a stamp, by the index of each stamp
+abbrev pub row_under : List (NamedRow × ℕ) → List (ℕ × ℕ) → ℕ → Option Row
+row_under rows places stamp = row_in_place rows (lookup (nat_eq stamp) places)
+
+-- the row of a stamp that was found
+abbrev pub row_found : (ℕ → Option Row) → Option ℕ → Option Row
+row_found at None = None
+row_found at (Some stamp) = at stamp
+
+-- rows with their stamps, the index of each stamp's row, and how many more fit without memory
+pub record Stamped : Type 0 where
+  pub rows : List (NamedRow × ℕ)
+  pub places : List (ℕ × ℕ)
+  pub spare : ℕ
+
+-- those of these parts
+abbrev pub stamped_of : {S T : Type 0} → index.IndexMap NamedRow ℕ S → index.IndexMap ℕ ℕ T → Stamped
+stamped_of rows places = record { rows = rows.entries; places = places.entries; spare = min (index.spare rows) (index.spare places) }
+
+-- the stamp under a class and key
+abbrev pub stamp_of : Stamped → Class → List ℕ → Option ℕ
+stamp_of rows class key = stamp_at rows.rows class key
+
+-- the row under a stamp
+abbrev pub row_of : Stamped → ℕ → Option Row
+row_of rows stamp = row_under rows.rows rows.places stamp
+
+-- the rows, their stamps and places are the same
+abbrev pub IsSame : Stamped → Stamped → Type 0
+IsSame old new = (new.rows ≡ old.rows) × (new.places ≡ old.places)
+
+-- each row's stamp has the row's index, and no other stamp has one
+pub record ArePlaced (rows : List (NamedRow × ℕ)) (places : List (ℕ × ℕ)) : Type 0 where
+  pub placed : (i stamp : ℕ) → stamp_in rows i ≡ Some stamp → lookup (nat_eq stamp) places ≡ Some i
+  pub stands : (stamp i : ℕ) → lookup (nat_eq stamp) places ≡ Some i → stamp_in rows i ≡ Some stamp
 
 -- whether a stamp is in a list
 abbrev pub among : ℕ → List ℕ → Bool
@@ -195,18 +248,19 @@ pub record Listing : Type 0 where
   pub spare : ℕ
 
 -- the list of these parts
-abbrev pub list_of : {S T : Type 0} → index.IndexMap RowName ℕ S → index.IndexMap ℕ Row T → counted.Row ℕ → counted.Row Expiry → counted.Row ℕ → ℕ → Listing
-list_of names rows order expiries listed next = record {
-  entries = map (entry_of (index.get nat_eq rows)) order.items;
+abbrev pub list_of : Stamped → counted.Row ℕ → counted.Row Expiry → counted.Row ℕ → ℕ → Listing
+list_of rows order expiries listed next = record {
+  entries = map (entry_of (row_of rows)) order.items;
   next = next;
-  spare = min (min (index.spare names) (index.spare rows)) (min (min order.spare (min expiries.spare listed.spare)) (2 ^ 63 - next));
+  spare = min rows.spare (min (min order.spare (min expiries.spare listed.spare)) (2 ^ 63 - next));
 }
 
--- each stamp has a row, which is found under its class and key; what is found there is a stamp of the list
+-- each stamp has a row, which is found under its class and key; what is found there is a stamp of the list, and only those have rows
 pub record IsListing (names : Class → List ℕ → Option ℕ) (at : ℕ → Option Row) (stamps : List ℕ) (next : ℕ) : Type 0 where
   pub rising : Rises 0 stamps next
   pub stands : (s : ℕ) → among s stamps ≡ true → (at s ≡ Some (kept at s)) × (names (kept at s).class (kept at s).key ≡ Some s)
   pub known : (class : Class) (key : List ℕ) (s : ℕ) → names class key ≡ Some s → (among s stamps ≡ true) × (is_row class key (kept at s) ≡ true)
+  pub only : (s : ℕ) (row : Row) → at s ≡ Some row → among s stamps ≡ true
   pub limit : next ≤ 2 ^ 63
 
 -- what a list keeps with its expiries and the stamps of its rows of class Listed

@@ -1,24 +1,23 @@
 //! What the rows of several stamps have.
 
-ghost use Rattle.std.specs.Prelude.{◌≡◌, ◌≤◌, ◌-◌, ◌++◌, List, length, map, nat_eq, IfOk, OnOk};
-ghost use Rattle.indexmap.specs.IndexMap.{get};
+ghost use Rattle.std.specs.Prelude.{◌≡◌, ◌≤◌, ◌-◌, ◌++◌, List, length, map, IfOk, OnOk};
 ghost use Rattle.voice_model.specs.declared.calls.Row.{Row as AnyRow};
 ghost use Rattle.voice_model.specs.Changes.{is_unlisted};
-ghost use Rattle.interest_table.specs.Inside.{kept, AllKept, first_keys};
+ghost use Rattle.interest_table.specs.Inside.{kept, row_of, AllKept, first_keys};
 
 use crate::going::is_absent;
-use indexmap::IndexMap;
+use crate::stamped::StampedRows;
 use std::collections::HashSet;
-use voice_model::{Key, Row};
+use voice_model::Key;
 use voice_units::{NoMemory, RopeId};
 
 /// The keys of the rows of these stamps.
-pub(crate) fn keys_under(rows: &IndexMap<u64, Row>, stamps: &[u64]) -> Result<Vec<Key>, NoMemory>
-    ensures { IfOk result (λ keys. AllKept (get nat_eq rows.now) stamps.now → keys.items ≡ map (λ s. (kept (get nat_eq rows.now) s).key) stamps.now) }
+pub(crate) fn keys_under(rows: &StampedRows, stamps: &[u64]) -> Result<Vec<Key>, NoMemory>
+    ensures { IfOk result (λ keys. AllKept (row_of rows.now) stamps.now → keys.items ≡ map (λ s. (kept (row_of rows.now) s).key) stamps.now) }
 {
-    let mut keys = Vec::new(*rows.allocator());
+    let mut keys = Vec::new(rows.allocator());
     for stamp in stamps {
-        let Some(row) = rows.get(stamp) else {
+        let Some(row) = rows.row(*stamp) else {
             continue;
         };
         keys.push(row.key)?;
@@ -28,14 +27,14 @@ pub(crate) fn keys_under(rows: &IndexMap<u64, Row>, stamps: &[u64]) -> Result<Ve
 
 /// The ropes of the rows of these stamps.
 pub(crate) fn ropes_under(
-    rows: &IndexMap<u64, Row>,
+    rows: &StampedRows,
     stamps: &[u64],
 ) -> Result<Vec<RopeId>, NoMemory>
-    ensures { IfOk result (λ ropes. AllKept (get nat_eq rows.now) stamps.now → ropes.items ≡ map (λ s. (kept (get nat_eq rows.now) s).rope) stamps.now) }
+    ensures { IfOk result (λ ropes. AllKept (row_of rows.now) stamps.now → ropes.items ≡ map (λ s. (kept (row_of rows.now) s).rope) stamps.now) }
 {
-    let mut ropes = Vec::new(*rows.allocator());
+    let mut ropes = Vec::new(rows.allocator());
     for stamp in stamps {
-        let Some(row) = rows.get(stamp) else {
+        let Some(row) = rows.row(*stamp) else {
             continue;
         };
         ropes.push(row.rope)?;
@@ -46,19 +45,19 @@ pub(crate) fn ropes_under(
 /// Puts the keys of those of these rows last that are of class Listed and not named, until there are 65,535.
 pub(crate) fn push_absent(
     keys: &mut Vec<Key>,
-    rows: &IndexMap<u64, Row>,
+    rows: &StampedRows,
     stamps: &[u64],
     named: &HashSet<Key>,
 ) -> Result<(), NoMemory>
     requires { length keys.old.items ≤ 65535 }
-    ensures keys { OnOk result (AllKept (get nat_eq rows.now) stamps.now → (left : List AnyRow) → keys.new.items ++ first_keys (is_unlisted named.now.keys) (65535 - length keys.new.items) left ≡ keys.old.items ++ first_keys (is_unlisted named.now.keys) (65535 - length keys.old.items) (map (kept (get nat_eq rows.now)) stamps.now ++ left)) }
+    ensures keys { OnOk result (AllKept (row_of rows.now) stamps.now → (left : List AnyRow) → keys.new.items ++ first_keys (is_unlisted named.now.keys) (65535 - length keys.new.items) left ≡ keys.old.items ++ first_keys (is_unlisted named.now.keys) (65535 - length keys.old.items) (map (kept (row_of rows.now)) stamps.now ++ left)) }
     ensures most { OnOk result (length keys.new.items ≤ 65535) }
 {
     for stamp in stamps {
         if keys.len() >= 65_535 {
             continue;
         }
-        let Some(row) = rows.get(stamp) else {
+        let Some(row) = rows.row(*stamp) else {
             continue;
         };
         if !is_absent(row, named) {

@@ -6,6 +6,7 @@ mod gather;
 mod going;
 mod listing;
 mod rows;
+mod stamped;
 mod stamps;
 mod tally;
 

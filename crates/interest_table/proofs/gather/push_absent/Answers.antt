@@ -1,18 +1,16 @@
 use Rattle.std.proofs.Common.{◌≡◌, ◌∙◌, ◌+◌, ◌++◌, ◌∷◌, ◌≤◌, length, map, drop, get_or, ap, sym, arith, rules}
-use Rattle.std.specs.Prelude.{nat_eq}
-use Rattle.indexmap.specs.IndexMap.{get}
 use Rattle.voice_model.specs.Changes.{is_unlisted}
-use Rattle.interest_table.specs.Inside.{kept}
+use Rattle.interest_table.specs.Inside.{row_of, kept}
 use Rattle.interest_table.proofs.Keys.{key_taken, drop_stamps}
 use Rattle.interest_table.proofs.Due.{row_kept}
 use Rattle.interest_table.proofs.gather.push_absent.Goals as goal
 
 pub loop-stamp-preserved : goal.loop-stamp-preserved
 loop-stamp-preserved c =
-    let at = get nat_eq c.args.rows.now in
+    let at = row_of c.args.rows.now in
     let ss = c.args.stamps.now in
     let row = c.in-Some.row.now in
-    let own : kept at (get_or ss c.loop-stamp.stamp-index 0) ≡ row = row_kept at (get_or ss c.loop-stamp.stamp-index 0) row (sym c.in-Some.ensures.value) in
+    let own : kept at (get_or ss c.loop-stamp.stamp-index 0) ≡ row = row_kept at (get_or ss c.loop-stamp.stamp-index 0) row (sym c.in-Some.ensures) in
     let room : length c.loop-stamp.keys.items + 1 ≤ 65535 = search rules in
     let long : length c.push.new.self.items ≡ length c.loop-stamp.keys.items + 1 = search rules in
     record {

@@ -1,10 +1,9 @@
-use Rattle.std.specs.Prelude.{nat_eq}
-use Rattle.indexmap.specs.IndexMap.{get}
+use Rattle.interest_table.specs.Inside.{row_of}
 use Rattle.interest_table.proofs.Due.{kept_at}
 use Rattle.interest_table.proofs.gather.ropes_under.Goals as goal
 
 pub loop-stamp-preserved-in_default : goal.loop-stamp-preserved-in_default
 loop-stamp-preserved-in_default c = λ h.
-    let there = kept_at (get nat_eq c.args.rows.now) c.args.stamps.now c.loop-stamp.stamp-index 0 h c.loop-stamp-test.true in
-    let none = c.in_default.ensures.value in
+    let there = kept_at (row_of c.args.rows.now) c.args.stamps.now c.loop-stamp.stamp-index 0 h c.loop-stamp-test.true in
+    let none = c.in_default.ensures in
     cc

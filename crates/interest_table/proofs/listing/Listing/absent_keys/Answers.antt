@@ -1,22 +1,20 @@
 use Rattle.std.proofs.Common.{◌∙◌, ◌+◌, ◌-◌, ◌++◌, length, map, drop, ap, arith}
-use Rattle.std.specs.Prelude.{nat_eq}
-use Rattle.indexmap.specs.IndexMap.{get}
 use Rattle.voice_model.specs.Changes.{is_unlisted, unlisted_keys}
-use Rattle.interest_table.specs.Inside.{kept, row_in, first_keys}
+use Rattle.interest_table.specs.Inside.{row_of, kept, row_in, first_keys}
 use Rattle.interest_table.proofs.Keys.{run_taken, run_within, drop_all, none_left, none_fit}
 use Rattle.interest_table.proofs.Census.{listed_kept, listed_alone}
 use Rattle.interest_table.proofs.listing.Listing.absent_keys.Goals as goal
 
 pub loop-run-init : goal.loop-run-init
 loop-run-init c = record {
-  keys = ap (λ keys. keys ++ first_keys (is_unlisted c.args.named.now.keys) (65535 - length keys) (map (kept (get nat_eq c.self.inside.rows)) c.self.inside.listed.items)) c.new-keys.ensures.items;
+  keys = ap (λ keys. keys ++ first_keys (is_unlisted c.args.named.now.keys) (65535 - length keys) (map (kept (row_of c.self.inside.rows)) c.self.inside.listed.items)) c.new-keys.ensures.items;
   most = omega (arith, ap length c.new-keys.ensures.items);
   within = omega arith;
 }
 
 pub loop-run-preserved : goal.loop-run-preserved
 loop-run-preserved c =
-    let at = get nat_eq c.self.inside.rows in
+    let at = row_of c.self.inside.rows in
     let ls = c.self.inside.listed.items in
     let run = c.in-Some.run'.now in
     let all = listed_kept at c.self.inside.order.items ls c.self.invariant.apart (λ s k. (c.self.invariant.listing.stands s k).0) in
@@ -28,7 +26,7 @@ loop-run-preserved c =
 
 pub returns-then-len-ge65535 : goal.returns-then-len-ge65535
 returns-then-len-ge65535 c =
-    let at = get nat_eq c.self.inside.rows in
+    let at = row_of c.self.inside.rows in
     let ls = c.self.inside.listed.items in
     let run = c.in-Some.run'.now in
     let all = listed_kept at c.self.inside.order.items ls c.self.invariant.apart (λ s k. (c.self.invariant.listing.stands s k).0) in
@@ -39,7 +37,7 @@ returns-then-len-ge65535 c =
 
 pub returns : goal.returns
 returns c =
-    let at = get nat_eq c.self.inside.rows in
+    let at = row_of c.self.inside.rows in
     let ls = c.self.inside.listed.items in
     none_left (is_unlisted c.args.named.now.keys) _ (map (kept at) (drop c.loop-run.place ls)) c.loop-run.keys.items _ (drop_all at ls c.loop-run.place c.in_default.ensures.none) c.loop-run.invariant.keys
     ∙ listed_alone c.args.named.now.keys at c.self.inside.order.items ls c.self.invariant.apart

@@ -1,14 +1,12 @@
 use Rattle.std.proofs.Common.{◌≡◌, ◌++◌, ◌≤◌, ◌-◌, length, map, drop}
-use Rattle.std.specs.Prelude.{nat_eq}
-use Rattle.indexmap.specs.IndexMap.{get}
 use Rattle.voice_model.specs.Changes.{is_unlisted, unlisted_keys}
-use Rattle.interest_table.specs.Inside.{kept, first_keys}
+use Rattle.interest_table.specs.Inside.{row_of, kept, first_keys}
 use Rattle.interest_table.proofs.listing.Listing.absent_keys.Given as goal
 
 -- the keys so far and those of the rows that are left, 65,535 in all
 abbrev pub invariant-loop-run : goal.invariant-loop-run
 invariant-loop-run l = record {
-  keys : l.keys.items ++ first_keys (is_unlisted l.named.keys) (65535 - length l.keys.items) (map (kept (get nat_eq l.self-inside.rows)) (drop l.place l.self-inside.listed.items)) ≡ unlisted_keys (map (kept (get nat_eq l.self-inside.rows)) l.self-inside.listed.items) l.named.keys;
+  keys : l.keys.items ++ first_keys (is_unlisted l.named.keys) (65535 - length l.keys.items) (map (kept (row_of l.self-inside.rows)) (drop l.place l.self-inside.listed.items)) ≡ unlisted_keys (map (kept (row_of l.self-inside.rows)) l.self-inside.listed.items) l.named.keys;
   most : length l.keys.items ≤ 65535;
   within : l.place ≤ length l.self-inside.listed.items;
 }
