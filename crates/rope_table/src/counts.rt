@@ -427,9 +427,8 @@ fn touch_all(tally: &mut Tally, block: u32, pieces: &Pieces, live: bool, pass: P
             return;
         };
         let file = piece.file;
-        let first = piece.from / block;
-        let last = (piece.from + piece.len - 1) / block;
-        for index in first..last + 1 {
+        let blocks = piece.blocks(block);
+        for index in blocks.start..blocks.end {
             touch(tally, BlockName { file, index }, live, pass);
         }
     }
@@ -448,8 +447,9 @@ fn only_block(pieces: &Pieces, block: u32) -> Option<BlockName>
         return None;
     };
     let file = piece.file;
-    let index = piece.from / block;
-    if (piece.from + piece.len - 1) / block != index {
+    let blocks = piece.blocks(block);
+    let index = blocks.start;
+    if blocks.end != index + 1 {
         return None;
     }
     Some(BlockName { file, index })
@@ -466,9 +466,8 @@ fn are_used(tally: &Tally, block: u32, pieces: &Pieces) -> bool
             return false;
         };
         let file = piece.file;
-        let first = piece.from / block;
-        let last = (piece.from + piece.len - 1) / block;
-        for index in first..last + 1 {
+        let blocks = piece.blocks(block);
+        for index in blocks.start..blocks.end {
             if tally.uses(&BlockName { file, index }) == 0 {
                 return false;
             }
