@@ -113,10 +113,6 @@ standing_found ropes id was e = by (rope_of ropes id) refl
     by None f = cc (e, ap (option_map standing_of) f)
     by (Some rope) f = (rope, f, cc (e, ap (option_map standing_of) f))
 
--- equal ropes with as much room
-pub same_ropes : (old new : Ropes) → new.ropes ≡ old.ropes → new.room ≡ old.room → old ≡ new
-same_ropes old new is room = sym (ap (λ l. let x : Ropes = record { ropes = l; room = new.room } in x) is ∙ ap (λ n. let x : Ropes = record { ropes = old.ropes; room = n } in x) room)
-
 -- where there is no rope of a number none changes
 pub standing_none : (id : ℕ) (g : Rope → Rope) (ropes : List Rope) → ◌≡◌ {A = Option Standing} None (standing_at ropes id) → map (changed id g) ropes ≡ ropes
 standing_none id g ropes e = by (rope_of ropes id) refl

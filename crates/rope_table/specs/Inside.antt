@@ -2,6 +2,7 @@
 --     Ropes, Dues, Uses      the ropes, the order in which they are due, and the uses of blocks, each with its room
 --     place_of test xs, IsAt ropes id i      how many elements in front pass a test;  the rope of a number stands at this place
 --     standing_of rope, standing_if id rope, standing_at ropes id      what a rope is besides its samples;  that of the rope, or of the rope among ropes, that has a number
+--     rested      what becomes of a rope as that of a number is idle since another moment, and is still kept or no longer
 --     AreLive ropes pieces      the ropes are in rising number, not too many, and have so many pieces
 --     Tallied      the counts of blocks
 --     found_in, entered_in entries pair; count_in, is_entered      a block's entry, if it has one;  a block's count, 0 and not marked where there is none, and whether it is entered
@@ -57,6 +58,10 @@ standing_if id rope = cond (rope.id == id) (Some (standing_of rope)) None
 -- and of the rope among ropes that has it
 abbrev pub standing_at : List Rope → ℕ → Option Standing
 standing_at ropes id = option_map standing_of (rope_of ropes id)
+
+-- the rope of a number is idle since this moment, lost a row of this class last, and waits so long; a row that keeps it still does, or none
+abbrev pub rested : ℕ → ℕ → ℕ → ℕ → Bool → Rope → Rope
+rested id idle last wait still rope = cond (rope.id == id) (record rope { idle = idle; last = last; wait = wait; kept = still && rope.kept }) rope
 
 -- the rope of a number stands at this place
 pub record IsAt (ropes : List Rope) (id i : ℕ) : Type 0 where
