@@ -9,12 +9,11 @@ use Rattle.voice_units.specs.Blocks.{BlockPair, pairs_at, has_pair, same_pair, d
 use Rattle.rope_table.specs.declared.ropes.Rope.{Rope}
 use Rattle.rope_table.specs.declared.dues.Due.{Due}
 use Rattle.rope_table.specs.Table.{Counts, is_sooner, is_lower, Every, IsInOrder, rope_of, with_rope, without_rope, with_due, due_of, due_at, index_of, uses_by, uses_in, uses_counted, live_counted, unused, pieces_in, pairs_in}
-use Rattle.rope_table.specs.declared.ropes.Standing.{Standing}
-use Rattle.rope_table.specs.Inside.{Ropes, Dues, Uses, IsWhole, seen, standing_at}
+use Rattle.rope_table.specs.Inside.{Ropes, Dues, Uses, IsWhole, seen}
 use Rattle.rope_table.proofs.InOrder.{split, every_put, in_order-put, Apart}
 use Rattle.rope_table.proofs.ById.{changed, gone, lower_through}
 use Rattle.rope_table.proofs.Blocks.{or_left, or_right, same_pair-refl}
-use Rattle.rope_table.proofs.Edited.{as_put, put_again, id_of, uses_with, index_with, index_of-with, length-with, apart_from, dues_apart, every_without, in_order-without, standing_found}
+use Rattle.rope_table.proofs.Edited.{as_put, put_again, id_of, uses_with, index_with, index_of-with, length-with, apart_from, dues_apart, every_without, in_order-without}
 
 -- the parts tell of these ropes
 pub make_whole : (r : Ropes) (d : Dues) (u : Uses) (block : ℕ) (ropes : List Rope) → u.block ≡ block → r.ropes ≡ ropes → IsInOrder is_lower ropes → Every (λ rope. rope.last ≤ 3) ropes

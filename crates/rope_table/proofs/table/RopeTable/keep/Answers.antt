@@ -1,9 +1,7 @@
 use Rattle.std.proofs.Common.{not, true, false, ap, sym, ◌∙◌, ◌≡◌, subst, arith}
-use Rattle.rope_table.specs.declared.ropes.Standing.{Standing}
 use Rattle.rope_table.specs.Table.{Table, Counts}
-use Rattle.rope_table.specs.Inside.{Ropes}
 use Rattle.rope_table.proofs.Wholes.{same_bool, other_bool}
-use Rattle.rope_table.proofs.Standings.{Changes, kept_as, keeps, counts_now, none_changed, unchanged, kept_out, left_out, room_for_due, apart_yet, still_out, entered}
+use Rattle.rope_table.proofs.Standings.{keeps, counts_now, none_changed, unchanged, kept_out, left_out, room_for_due, apart_yet, still_out, entered}
 use Rattle.rope_table.proofs.table.RopeTable.keep.Goals as goal
 
 pub invariant_of-self : goal.invariant_of-self

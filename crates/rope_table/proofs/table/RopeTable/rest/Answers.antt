@@ -1,4 +1,4 @@
-use Rattle.std.proofs.Common.{◌≡◌, ◌&&◌, Bool, true, false, ap, sym, ◌∙◌, subst, arith}
+use Rattle.std.proofs.Common.{◌&&◌, ap, sym, ◌∙◌, subst, arith}
 use Rattle.rope_table.specs.Table.{Table, Counts}
 use Rattle.rope_table.proofs.Standings.{rests, counts_now, none_changed, kept_out, left_out, room_for_due, apart_yet, none_still, still_out, entered}
 use Rattle.rope_table.proofs.table.RopeTable.rest.Goals as goal
