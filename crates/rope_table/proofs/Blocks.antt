@@ -1,7 +1,6 @@
 -- Which blocks pieces have.
-use Rattle.std.proofs.Common.{◌≡◌, ℕ, zero, suc, ◌+◌, ◌-◌, ◌/◌, ◌^◌, ◌<◌, ◌≤◌, List, [], ◌∷◌, ◌++◌, length, filter, take, get_or, Bool, true, false, not, ◌&&◌, ◌||◌, ◌==◌, cond, nat_lt, nat_le, Some, refl, sym, ◌∙◌, ap, subst, arith}
-use Rattle.std.proofs.Math.Nat.{div-mul-le_self, add-div_right}
-use Rattle.std.proofs.lemmas.Nat.{le-div}
+use Rattle.std.proofs.Common.{◌≡◌, ℕ, zero, suc, ◌+◌, ◌-◌, ◌*◌, ◌^◌, ◌<◌, ◌≤◌, List, [], ◌∷◌, ◌++◌, length, filter, take, get_or, Bool, true, false, not, ◌&&◌, ◌||◌, ◌==◌, cond, nat_lt, nat_le, Some, refl, sym, ◌∙◌, ap, subst, arith}
+use Rattle.std.proofs.Math.Nat.{le-mul_of_pos_right}
 use Rattle.std.proofs.lemmas.List.{map-append, take_more, append_assoc, append-nil}
 use Rattle.std.proofs.lemmas.List.Folds.{list_any-append}
 use Rattle.std.proofs.lemmas.Bool.{cond_both, false≢true, eq-eqb}
@@ -9,49 +8,13 @@ use Rattle.std.proofs.lemmas.Bool.Decides.{nat_tests}
 use Rattle.std.specs.Prelude.{slice_get}
 use Rattle.std.specs.List.{list_all}
 use Rattle.voice_units.specs.declared.Piece.{Piece}
-use Rattle.voice_units.specs.Spots.{Spot, spots_of, spots_in, spots_from, IsNormal}
-use Rattle.voice_units.specs.Blocks.{BlockPair, pair_at, pairs_at, has_pair, same_pair, distinct}
+use Rattle.voice_units.specs.Spots.{Spot, spots_of, spots_in, IsNormal}
+use Rattle.voice_units.specs.Blocks.{BlockPair, pair_at, pairs_at, has_pair, same_pair, distinct, in_run}
 use Rattle.voice_units.proofs.Distinct.{same_count, same_pair-true, has_pair-distinct}
 use Rattle.rope_algebra.specs.Kept.{LieInFiles}
 use Rattle.rope_table.proofs.InOrder.{split}
 
 -- ---- blocks one behind another
-
--- whether a block of a file has an index from one up to another
-abbrev pub in_run : ℕ → ℕ → ℕ → BlockPair → Bool
-in_run file first end q = (q.file == file) && (nat_le first q.index && nat_lt q.index end)
-
-pub div_grows : (a b k : ℕ) → 0 < k → a ≤ b → a / k ≤ b / k
-div_grows a b k some le = le-div (a / k) b k some (omega (arith, div-mul-le_self a k, le))
-
-div_step : (a k : ℕ) → 0 < k → (a + 1) / k ≤ a / k + 1
-div_step a k some = let e = add-div_right a {k = k} some in let g = div_grows (a + 1) (a + k) k some (omega arith) in omega (arith, e, g)
-
-one_block : (f : Bool) (i a : ℕ) → ((f && (i == a)) || false) ≡ (f && (nat_le a i && nat_lt i (a + 1)))
-one_block true i a = grind (arith, nat_tests)
-one_block false i a = refl
-
-more_blocks : (f : Bool) (i a b e : ℕ) → a ≤ b → b ≤ a + 1 → b ≤ e → ((f && (i == a)) || (f && (nat_le b i && nat_lt i (e + 1)))) ≡ (f && (nat_le a i && nat_lt i (e + 1)))
-more_blocks true i a b e h k l = grind (arith, nat_tests)
-more_blocks false i a b e h k l = refl
-
-run_from : (block file from n : ℕ) (q : BlockPair) → 0 < block → has_pair (pairs_at block (spots_from file from (suc n))) q ≡ in_run file (from / block) ((from + n) / block + 1) q
-run_from block file from zero q some = one_block (q.file == file) q.index (from / block) ∙ ap (λ m. in_run file (from / block) (m / block + 1) q) (omega arith)
-run_from block file from (suc n) q some =
-    let same : from + 1 + n ≡ from + suc n = omega arith in
-    ap (λ b. same_pair q (pair_at block (record { file = file; place = from })) || b) (run_from block file (from + 1) n q some)
-    ∙ more_blocks (q.file == file) q.index (from / block) ((from + 1) / block) ((from + 1 + n) / block) (div_grows from (from + 1) block some (omega arith)) (div_step from block some) (div_grows (from + 1) (from + 1 + n) block some (omega arith))
-    ∙ ap (λ m. in_run file (from / block) (m / block + 1) q) same
-
--- the blocks of a piece
-pub run_of : (block : ℕ) (piece : Piece) (q : BlockPair) → 0 < block → 1 ≤ piece.len → in_run piece.file (piece.from / block) ((piece.from + piece.len - 1) / block + 1) q ≡ has_pair (pairs_at block (spots_in piece)) q
-run_of block piece q some long =
-    let n = piece.len - 1 in
-    let one : suc n ≡ piece.len = omega (arith, long) in
-    let end : piece.from + n ≡ piece.from + piece.len - 1 = omega (arith, long) in
-    sym (ap (λ m. has_pair (pairs_at block (spots_from piece.file piece.from m)) q) (sym one)
-    ∙ run_from block piece.file piece.from n q some
-    ∙ ap (λ m. in_run piece.file (piece.from / block) (m / block + 1) q) end)
 
 -- no block yet
 pub no_run : (file first : ℕ) (q : BlockPair) (b : Bool) → (b || in_run file first first q) ≡ b
@@ -123,17 +86,30 @@ ends_in_file [] k piece ends at = cc
 ends_in_file (p ∷ ps) zero piece ends at = let same : p ≡ piece = cc in subst (λ (r : Piece). r.from + r.len ≤ 2 ^ 30) same ends.0
 ends_in_file (p ∷ ps) (suc k) piece ends at = ends_in_file ps k piece ends.1 at
 
+-- the indexes of a piece's blocks fit
+pub blocks_fit : (block k : ℕ) (ps : List Piece) (piece : Piece) → 0 < block → LieInFiles ps → slice_get ps k ≡ Some piece → piece.from + piece.len ≤ (2 ^ 32 - 1) * block
+blocks_fit block k ps piece some ends at =
+    let end = ends_in_file ps k piece ends at in
+    let most = le-mul_of_pos_right {m = block} (2 ^ 32 - 1) some in
+    omega (arith, end, most)
+
 pub at_get : {A : Type 0} (xs : List A) (k : ℕ) (x : A) → slice_get xs k ≡ Some x → x ≡ get_or xs k x
 at_get [] k x at = cc
 at_get (y ∷ ys) zero x at = cc
 at_get (y ∷ ys) (suc k) x at = at_get ys k x at
 
 -- a block that is met in a piece is one of the pieces'
-pub meets : (block k index : ℕ) (ps : List Piece) (piece : Piece) → 0 < block → IsNormal ps → slice_get ps k ≡ Some piece → piece.from / block ≤ index → index < (piece.from + piece.len - 1) / block + 1 → has_pair (pairs_at block (spots_of ps)) (record { file = piece.file; index = index }) ≡ true
-meets block k index ps piece some normal at low high =
+pub meets : (block k index start end : ℕ) (ps : List Piece) (piece : Piece) → slice_get ps k ≡ Some piece → ((q : BlockPair) → has_pair (pairs_at block (spots_in piece)) q ≡ in_run piece.file start end q) → start ≤ index → index < end → has_pair (pairs_at block (spots_of ps)) (record { file = piece.file; index = index }) ≡ true
+meets block k index start end ps piece at run low high =
     let p : BlockPair = record { file = piece.file; index = index } in
-    block_of_piece block k ps piece p at
-    (sym (run_of block piece p some (some_samples ps k piece normal at)) ∙ in_its_run piece.file (piece.from / block) index ((piece.from + piece.len - 1) / block + 1) low high)
+    block_of_piece block k ps piece p at (run p ∙ in_its_run piece.file start index end low high)
+
+-- the pieces' blocks, with those of one more met to the end
+pub piece_met : (block k start index end : ℕ) (ps : List Piece) (piece : Piece) (q : BlockPair) → k < length ps → slice_get ps k ≡ Some piece → ((q : BlockPair) → has_pair (pairs_at block (spots_in piece)) q ≡ in_run piece.file start end q) → index ≡ end → (has_pair (pairs_at block (spots_of (take k ps))) q || in_run piece.file start index q) ≡ has_pair (pairs_at block (spots_of (take (k + 1) ps))) q
+piece_met block k start index end ps piece q within at run last =
+    ap (λ n. has_pair (pairs_at block (spots_of (take k ps))) q || in_run piece.file start n q) last
+    ∙ ap (λ b. has_pair (pairs_at block (spots_of (take k ps))) q || b) (sym (run q))
+    ∙ front_more block k ps piece q within (at_get ps k piece at)
 
 -- ---- how many blocks are missing
 

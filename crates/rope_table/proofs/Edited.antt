@@ -12,7 +12,7 @@ use Rattle.voice_units.specs.Blocks.{BlockPair}
 use Rattle.rope_table.specs.declared.ropes.Rope.{Rope}
 use Rattle.rope_table.specs.declared.dues.Due.{Due}
 use Rattle.rope_table.specs.Table.{is_sooner, is_lower, Every, IsInOrder, rope_of, with_rope, without_rope, with_due, due_of, index_of, uses_by, uses_in, pieces_in}
-use Rattle.rope_table.specs.Inside.{Ropes, lies_below, place_of, IsAt, standing_of, standing_if, standing_at}
+use Rattle.rope_table.specs.Inside.{lies_below, place_of, IsAt, standing_of, standing_if, standing_at}
 use Rattle.rope_table.specs.declared.ropes.Standing.{Standing}
 use Rattle.rope_table.proofs.InOrder.{split, place_gone, every_put, every_imp, put_swap, length-put, Apart}
 use Rattle.rope_table.proofs.ById.{changed, below_down, map_none, without_none, none_behind, not_here, place_more, place_none, if_id, rope_at_place, lower_apart, sooner_apart, sooner_through}
@@ -112,10 +112,6 @@ standing_found ropes id was e = by (rope_of ropes id) refl
     by : (o : Option Rope) → rope_of ropes id ≡ o → (rope : Rope) × (rope_of ropes id ≡ Some rope) × (was ≡ standing_of rope)
     by None f = cc (e, ap (option_map standing_of) f)
     by (Some rope) f = (rope, f, cc (e, ap (option_map standing_of) f))
-
--- equal ropes with as much room
-pub same_ropes : (old new : Ropes) → new.ropes ≡ old.ropes → new.room ≡ old.room → old ≡ new
-same_ropes old new is room = sym (ap (λ l. let x : Ropes = record { ropes = l; room = new.room } in x) is ∙ ap (λ n. let x : Ropes = record { ropes = old.ropes; room = n } in x) room)
 
 -- where there is no rope of a number none changes
 pub standing_none : (id : ℕ) (g : Rope → Rope) (ropes : List Rope) → ◌≡◌ {A = Option Standing} None (standing_at ropes id) → map (changed id g) ropes ≡ ropes

@@ -8,4 +8,5 @@ pub mod Lives
 pub mod Filings
 pub mod Passes
 pub mod Wholes
+pub mod Standings
 pub mod Checked

@@ -15,7 +15,7 @@ use Rattle.rope_table.specs.declared.files.FileCount.{FileCount}
 use mir.Val.{bool_byte}
 use Rattle.std.specs.HashMap.{HashMap}
 use Rattle.rope_table.specs.Files.{Filed, no_file, file_of, is_filed}
-use Rattle.rope_table.specs.Inside.{pair_named, found_in, entered_in, weight_found, is_live, live_once, live_in, in_file, live_in_file, once, IsTallied, used_again}
+use Rattle.rope_table.specs.Inside.{pair_named, found_in, entered_in, weight_found, is_live, live_once, live_in, in_file, live_in_file, once, IsTallied, IsBehind, used_again}
 use Rattle.rope_table.proofs.Sums.{sum_part}
 use Rattle.rope_table.proofs.InOrder.{split}
 use Rattle.rope_table.proofs.Blocks.{front_counts, or_left, or_right, same_pair-refl}
@@ -239,11 +239,14 @@ weight_all : (name : BlockName) (o : Option Count) → weight_found (λ e. live_
 weight_all name None = refl
 weight_all name (Some count) = refl
 
-weight_counted : (f : ℕ) (name : BlockName) (o : Option Count) (fresh : Bool) → is_some o ≡ not fresh → weight_found (in_file f) name o + cond (name.file == f) (once fresh) 0 ≡ once (name.file == f)
-weight_counted f name None true e = omega arith
-weight_counted f name None false e = cc
-weight_counted f name (Some count) true e = cc
-weight_counted f name (Some count) false e = no_more (name.file == f)
+weight_counted : (f : ℕ) (name : BlockName) (o : Option Count) → weight_found (in_file f) name o + cond (name.file == f) (cond (is_some o) 0 1) 0 ≡ once (name.file == f)
+weight_counted f name None = omega arith
+weight_counted f name (Some count) = no_more (name.file == f)
+
+-- a block that had no count
+pub fresh_once : (b fresh : Bool) → b ≡ not fresh → once fresh ≡ cond b 0 1
+fresh_once b true e = sym (ap {B = ℕ} (λ x. cond x 0 1) e)
+fresh_once b false e = sym (ap {B = ℕ} (λ x. cond x 0 1) e)
 
 once_and : (a b : Bool) → once (a && b) ≡ cond a (once b) 0
 once_and true b = refl
@@ -253,29 +256,20 @@ weight_lives : (f : ℕ) (name : BlockName) (o : Option Count) → weight_found 
 weight_lives f name None = sym (no_either (name.file == f) 0)
 weight_lives f name (Some count) = once_and (name.file == f) (is_live count)
 
-pub live_put : (es fs : List (BlockName × Count)) (name : BlockName) (count : Count) (o : Option Count) (was : Bool) → ((weigh : BlockName × Count → ℕ) → sum_by weigh fs + weight_found weigh name o ≡ sum_by weigh es + weigh (name, count)) → was ≡ is_live (unwrap_or o no_count) → live_in fs + once was ≡ live_in es + once (is_live count)
-live_put es fs name count o was sums before =
-    let all = sums (λ e. live_once e.1) in
-    let one = weight_all name o in
-    let same = ap once before in
-    omega (arith, all, one, same)
-
-pub tallied_put : {S : Type 0} (m n : HashMap BlockName Count S) (files new : Filed) (live more : ℕ) (name : BlockName) (count : Count) (o : Option Count) (fresh was : Bool) → IsTallied m files live
-    → ((weigh : BlockName × Count → ℕ) → sum_by weigh n.entries + weight_found weigh name o ≡ sum_by weigh m.entries + weigh (name, count)) → is_some o ≡ not fresh → was ≡ is_live (unwrap_or o no_count)
-    → ((f : ℕ) → (file_of new.files f).counted ≡ (file_of files.files f).counted + cond (name.file == f) (once fresh) 0)
-    → ((f : ℕ) → (file_of new.files f).live + cond (name.file == f) (once was) 0 ≡ (file_of files.files f).live + cond (name.file == f) (once (is_live count)) 0)
-    → more + once was ≡ live + once (is_live count) → IsTallied n new more
-tallied_put m n files new live more name count o fresh was h sums unknown before counted lives total = record {
-  total = let all = live_put m.entries n.entries name count o was sums before in let was_all = h.total in omega (arith, all, was_all, total);
-  counted = λ f. let all = sums (in_file f) in let one = weight_counted f name o fresh unknown in let now = counted f in let then = h.counted f in omega (arith, all, one, now, then);
+-- the numbers before a block gets a count
+pub behind_put : {S : Type 0} (m : HashMap BlockName Count S) (fs : List (BlockName × Count)) (files : Filed) (live : ℕ) (name : BlockName) (count : Count) (o : Option Count) → IsTallied m files live
+    → ((weigh : BlockName × Count → ℕ) → sum_by weigh fs + weight_found weigh name o ≡ sum_by weigh m.entries + weigh (name, count)) → o ≡ found_in m.entries (pair_named name) → IsBehind fs files live name.file o (is_live count)
+behind_put m fs files live name count o h sums found = record {
+  total = let all = sums (λ e. live_once e.1) in let one = weight_all name o in let was = h.total in omega (arith, all, one, was);
+  counted = λ f. let all = sums (in_file f) in let one = weight_counted f name o in let was = h.counted f in omega (arith, all, one, was);
   lives = λ f.
       let all = sums (live_in_file f) in
       let one = weight_lives f name o in
       let two = once_and (name.file == f) (is_live count) in
-      let same : cond (name.file == f) (once was) 0 ≡ cond (name.file == f) (once (is_live (unwrap_or o no_count))) 0 = ap (λ b. cond (name.file == f) (once b) 0) before in
-      let now = lives f in
-      let then = h.lives f in
-      omega (arith, all, one, two, same, now, then);
+      let was = h.lives f in
+      omega (arith, all, one, two, was);
+  there = let least = there_live m.entries name o found in let was = h.lives name.file in omega (arith, least, was);
+  within = let all = lives_within name.file m.entries in let lives = h.lives name.file in let counted = h.counted name.file in omega (arith, all, lives, counted);
 }
 
 pub live_take : (es fs : List (BlockName × Count)) (name : BlockName) (o : Option Count) (was : Bool) → ((weigh : BlockName × Count → ℕ) → sum_by weigh fs + weight_found weigh name o ≡ sum_by weigh es) → was ≡ is_live (unwrap_or o no_count) → live_in fs + once was ≡ live_in es
@@ -292,7 +286,7 @@ pub tallied_take : {S : Type 0} (m n : HashMap BlockName Count S) (files new : F
     → less + once was ≡ live → IsTallied n new less
 tallied_take m n files new live less name o was h sums known before counted lives total = record {
   total = let all = live_take m.entries n.entries name o was sums before in let was_all = h.total in omega (arith, all, was_all, total);
-  counted = λ f. let all = sums (in_file f) in let one = weight_counted f name o false known in let now = counted f in let then = h.counted f in let none = no_either (name.file == f) 0 in omega (arith, all, one, now, then, none);
+  counted = λ f. let all = sums (in_file f) in let one = weight_counted f name o in let had = ap {B = ℕ} (λ b. cond (name.file == f) (cond b 0 1) 0) known in let now = counted f in let then = h.counted f in let none = no_either (name.file == f) 0 in omega (arith, all, one, had, now, then, none);
   lives = λ f.
       let all = sums (live_in_file f) in
       let one = weight_lives f name o in
@@ -311,9 +305,10 @@ tallied_same m n files new live h is same = record {
 
 -- ---- a block in use
 
-pub found_used : (used : Bool) (o r : Option Count) → r ≡ cond used o None → is_some r ≡ true → r ≡ o
-found_used true o r e some = e
-found_used false o r e some = absurd (false≢true (sym (ap is_some e) ∙ some))
+-- a block that is used had a count, and that is told
+pub used_there : (used none : Bool) (o r : Option Count) → r ≡ cond used o None → is_some r ≡ not none → none ≡ false → (r ≡ o) × (is_some r ≡ true)
+used_there true none o r e is there = (e, is ∙ ap not there)
+used_there false none o r e is there = absurd (false≢true (sym (ap is_some e) ∙ is ∙ ap not there))
 
 pub weight_again : (weigh : BlockName × Count → ℕ) (name : BlockName) (live : Bool) (o : Option Count) → is_some o ≡ true → weight_found weigh name (option_map (used_again live) o) ≡ weigh (name, used_again live (unwrap_or o no_count))
 weight_again weigh name live None some = absurd (false≢true some)

@@ -9,12 +9,11 @@ use Rattle.voice_units.specs.Blocks.{BlockPair, pairs_at, has_pair, same_pair, d
 use Rattle.rope_table.specs.declared.ropes.Rope.{Rope}
 use Rattle.rope_table.specs.declared.dues.Due.{Due}
 use Rattle.rope_table.specs.Table.{Counts, is_sooner, is_lower, Every, IsInOrder, rope_of, with_rope, without_rope, with_due, due_of, due_at, index_of, uses_by, uses_in, uses_counted, live_counted, unused, pieces_in, pairs_in}
-use Rattle.rope_table.specs.declared.ropes.Standing.{Standing}
-use Rattle.rope_table.specs.Inside.{Ropes, Dues, Uses, IsWhole, seen, standing_at}
+use Rattle.rope_table.specs.Inside.{Ropes, Dues, Uses, IsWhole, seen}
 use Rattle.rope_table.proofs.InOrder.{split, every_put, in_order-put, Apart}
 use Rattle.rope_table.proofs.ById.{changed, gone, lower_through}
 use Rattle.rope_table.proofs.Blocks.{or_left, or_right, same_pair-refl}
-use Rattle.rope_table.proofs.Edited.{as_put, put_again, id_of, uses_with, index_with, index_of-with, length-with, apart_from, dues_apart, every_without, in_order-without, standing_found}
+use Rattle.rope_table.proofs.Edited.{as_put, put_again, id_of, uses_with, index_with, index_of-with, length-with, apart_from, dues_apart, every_without, in_order-without}
 
 -- the parts tell of these ropes
 pub make_whole : (r : Ropes) (d : Dues) (u : Uses) (block : ℕ) (ropes : List Rope) → u.block ≡ block → r.ropes ≡ ropes → IsInOrder is_lower ropes → Every (λ rope. rope.last ≤ 3) ropes
@@ -95,18 +94,6 @@ whole_changed r r' d d' u id g rope h found named same class is dues room =
     (λ q. let all = uses_with u.block q (g rope) rest in let was = h.live q in let parts = uses_split id r.ropes rope h.table.rising found u.block q in let one = ap (λ ps. uses_by u.block ps q) same in omega (arith, all, was, parts, one))
 
 -- the held passages are counted as before
-pub same_uses : (block id : ℕ) (g : Rope → Rope) (ropes : List Rope) (rope : Rope) (q : BlockPair) → IsInOrder is_lower ropes → rope_of ropes id ≡ Some rope → (g rope).id ≡ id → (g rope).pieces ≡ rope.pieces → uses_in block (pieces_in (map (changed id g) ropes)) q ≡ uses_in block (pieces_in ropes) q
-same_uses block id g ropes rope q order found named same =
-    ap (λ l. uses_in block (pieces_in l) q) (put_again id g ropes rope order found named)
-    ∙ uses_with block q (g rope) (without_rope id ropes)
-    ∙ ap (λ ps. uses_by block ps q + uses_in block (pieces_in (without_rope id ropes)) q) same
-    ∙ sym (uses_split id ropes rope order found block q)
-
-pub counts_changed : (r r' : Ropes) (d d' : Dues) (u : Uses) (id : ℕ) (g : Rope → Rope) (rope : Rope) (held : List (List Piece)) → IsInOrder is_lower r.ropes → rope_of r.ropes id ≡ Some rope → (g rope).id ≡ id → (g rope).pieces ≡ rope.pieces
-    → r'.ropes ≡ map (changed id g) r.ropes → Counts (seen r d u) held → Counts (seen r' d' u) held
-counts_changed r r' d d' u id g rope held order found named same is h = λ q.
-    h q ∙ sym (ap (λ n. n + uses_in u.block held q) (ap (λ l. uses_in u.block (pieces_in l) q) is ∙ same_uses u.block id g r.ropes rope q order found named same))
-
 pub counts_added : (r r' : Ropes) (d d' : Dues) (u u' : Uses) (rope : Rope) (held : List (List Piece)) → r'.ropes ≡ with_rope rope r.ropes → u'.block ≡ u.block
     → ((q : BlockPair) → uses_counted u'.counts q ≡ uses_counted u.counts q + uses_by u.block rope.pieces q) → Counts (seen r d u) held → Counts (seen r' d' u') held
 counts_added r r' d d' u u' rope held is block uses h = λ q.
@@ -176,13 +163,6 @@ left_due id ropes rope dues left due order found is named free leaves =
     leaves (index_of rest) (subst (λ (d : Due). Apart is_sooner d (index_of rest)) (sym same) (dues_apart (due_of rope) rest (not_among id ropes rope order found)))
     (is ∙ index_of_due id ropes rope order found free ∙ sym (ap (λ d. with_due d (index_of rest)) same))
 
--- the same, by what the rope was
-pub left_was : (id : ℕ) (ropes : List Rope) (was : Standing) (dues left : List Due) (due : Due) → IsInOrder is_lower ropes → Some was ≡ standing_at ropes id → dues ≡ index_of ropes → due ≡ due_at id was.idle was.wait → was.kept ≡ false
-    → ((rest : List Due) → Apart is_sooner due rest → dues ≡ with_due due rest → left ≡ rest) → left ≡ index_of (without_rope id ropes)
-left_was id ropes was dues left due order live is named free leaves =
-    let f = standing_found ropes id was live in
-    left_due id ropes f.0 dues left due order f.1 is (named ∙ ap (λ (w : Standing). due_at id w.idle w.wait) f.2) (sym (ap (λ (w : Standing). w.kept) f.2) ∙ free) leaves
-
 pub same_bool : (a b : Bool) → beq a b ≡ true → a ≡ b
 same_bool true true e = refl
 same_bool true false e = cc
@@ -194,12 +174,6 @@ other_bool true true e = cc
 other_bool true false e = refl
 other_bool false true e = refl
 other_bool false false e = cc
-
--- a change that alters nothing
-pub no_change : (id : ℕ) (g : Rope → Rope) (ropes : List Rope) (rope : Rope) → IsInOrder is_lower ropes → rope_of ropes id ≡ Some rope → g rope ≡ rope → map (changed id g) ropes ≡ ropes
-no_change id g ropes rope order found same =
-    put_again id g ropes rope order found (ap (λ (r : Rope). r.id) same ∙ id_of id ropes rope found)
-    ∙ ap (λ r. with_rope r (without_rope id ropes)) same ∙ sym (as_put id ropes rope order found)
 
 -- the blocks of a live rope are in use
 pub used_by_live : (r : Ropes) (d : Dues) (u : Uses) (id : ℕ) (rope : Rope) (q : BlockPair) → IsWhole r d u → rope_of r.ropes id ≡ Some rope → has_pair (pairs_at u.block (spots_of rope.pieces)) q ≡ true → 1 ≤ uses_counted u.counts q

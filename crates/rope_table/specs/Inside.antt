@@ -2,6 +2,7 @@
 --     Ropes, Dues, Uses      the ropes, the order in which they are due, and the uses of blocks, each with its room
 --     place_of test xs, IsAt ropes id i      how many elements in front pass a test;  the rope of a number stands at this place
 --     standing_of rope, standing_if id rope, standing_at ropes id      what a rope is besides its samples;  that of the rope, or of the rope among ropes, that has a number
+--     rested      what becomes of a rope as that of a number is idle since another moment, and is still kept or no longer
 --     AreLive ropes pieces      the ropes are in rising number, not too many, and have so many pieces
 --     Tallied      the counts of blocks
 --     found_in, entered_in entries pair; count_in, is_entered      a block's entry, if it has one;  a block's count, 0 and not marked where there is none, and whether it is entered
@@ -11,6 +12,7 @@
 --     missing tally pairs      how many blocks have no count yet
 --     in_file, live_in_file f e, weight_found weigh name count      1 for an entry of a file, or of one that is live;  what a found entry weighs
 --     IsTallied counts files live      the numbers of such entries are kept
+--     IsBehind counts files live file old is      they are those before a block of a file got a count
 --     AreSettled tally      no block is marked
 --     seen, IsWhole      the table of these parts;  the parts tell of the same ropes
 use Rattle.std.specs.Prelude.{◌≡◌, ℕ, suc, ◌+◌, ◌-◌, ◌^◌, ◌≤◌, ◌<◌, min, nat_lt, nat_le, Bool, true, false, not, ◌&&◌, ◌||◌, ◌==◌, cond, List, [], ◌∷◌, length, filter, slice_get, Option, Some, None, option_map, unwrap_or, is_some, IsSome}
@@ -27,7 +29,7 @@ use Rattle.rope_table.specs.declared.counts.Pass.{Pass}
 use Rattle.rope_table.specs.declared.counts.Pass.TheVariants.{Raise, Lower, Settle}
 use Rattle.rope_table.specs.declared.files.FileCount.{FileCount}
 use Rattle.rope_table.specs.Files.{Filed, file_of}
-use Rattle.rope_table.specs.Table.{Table, IsTable, Every, IsInOrder, is_lower, rope_of, piece_count, index_of, name_eq, name_of, count_of, live_counted, uses_in, pieces_in}
+use Rattle.rope_table.specs.Table.{Table, IsTable, Every, IsInOrder, is_lower, rope_of, piece_count, index_of, name_eq, name_of, no_count, count_of, live_counted, uses_in, pieces_in}
 
 -- how many elements in front pass a test
 abbrev pub place_of : {A : Type 0} → (A → Bool) → List A → ℕ
@@ -57,6 +59,10 @@ standing_if id rope = cond (rope.id == id) (Some (standing_of rope)) None
 -- and of the rope among ropes that has it
 abbrev pub standing_at : List Rope → ℕ → Option Standing
 standing_at ropes id = option_map standing_of (rope_of ropes id)
+
+-- the rope of a number is idle since this moment, lost a row of this class last, and waits so long; a row that keeps it still does, or none
+abbrev pub rested : ℕ → ℕ → ℕ → ℕ → Bool → Rope → Rope
+rested id idle last wait still rope = cond (rope.id == id) (record rope { idle = idle; last = last; wait = wait; kept = still && rope.kept }) rope
 
 -- the rope of a number stands at this place
 pub record IsAt (ropes : List Rope) (id i : ℕ) : Type 0 where
@@ -179,6 +185,14 @@ pub record IsTallied {S : Type 0} (counts : HashMap BlockName Count S) (files : 
   pub total : live ≡ live_in counts.entries
   pub counted : (f : ℕ) → (file_of files.files f).counted ≡ sum_by (in_file f) counts.entries
   pub lives : (f : ℕ) → (file_of files.files f).live ≡ sum_by (live_in_file f) counts.entries
+
+-- the numbers are those before a block of a file got a count, which live ropes have or not: it had this one, or none
+pub record IsBehind (counts : List (BlockName × Count)) (files : Filed) (live file : ℕ) (old : Option Count) (is : Bool) : Type 0 where
+  pub total : live + once is ≡ live_in counts + once (is_live (unwrap_or old no_count))
+  pub counted : (f : ℕ) → (file_of files.files f).counted + cond (file == f) (cond (is_some old) 0 1) 0 ≡ sum_by (in_file f) counts
+  pub lives : (f : ℕ) → (file_of files.files f).live + cond (file == f) (once is) 0 ≡ sum_by (live_in_file f) counts + cond (file == f) (once (is_live (unwrap_or old no_count))) 0
+  pub there : once (is_live (unwrap_or old no_count)) ≤ (file_of files.files file).live
+  pub within : (file_of files.files file).live ≤ (file_of files.files file).counted
 
 -- no block is marked
 abbrev pub AreSettled : Tallied → Type 0

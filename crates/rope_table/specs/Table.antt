@@ -3,7 +3,7 @@
 --     Every P xs, IsInOrder comes xs, put_in comes x xs      each element has it;  each comes before all behind it;  an element put in front of the first one that it comes before
 --     rope_of ropes id, number_above ropes id      the rope of a number;  the lowest number above one
 --     with_rope rope ropes, without_rope id ropes      a rope put in by its number;  the ropes without that of a number
---     settled, held_back      what becomes of a rope as that of a number loses its last row, or is kept or no longer kept
+--     settled, idled, held_back      what becomes of a rope as that of a number loses its last row, is idle since another moment, or is kept or no longer kept
 --     piece_count ropes      how many pieces ropes have in all
 --     made_rope      the rope of these parts, which no row keeps
 --     uses_by block ps pair, uses_in block lists pair      1 where pieces have a block, else 0;  how many lists of pieces have it
@@ -69,6 +69,10 @@ without_rope id ropes = filter (λ rope. not (rope.id == id)) ropes
 -- the rope of a number has no row any more since this moment, lost one of this class last, and waits so long
 abbrev pub settled : ℕ → ℕ → ℕ → ℕ → Rope → Rope
 settled id idle last wait rope = cond (rope.id == id) (record rope { idle = idle; last = last; wait = wait; kept = false }) rope
+
+-- the rope of a number is idle since this moment, lost a row of this class last, and waits so long
+abbrev pub idled : ℕ → ℕ → ℕ → ℕ → Rope → Rope
+idled id idle last wait rope = cond (rope.id == id) (record rope { idle = idle; last = last; wait = wait }) rope
 
 -- the rope of a number is kept by a row, or no longer
 abbrev pub held_back : ℕ → Bool → Rope → Rope

@@ -6,7 +6,8 @@ ghost use Rattle.std.specs.List.{sum_by, list_all};
 ghost use Rattle.voice_units.specs.Spots.{spots_of};
 ghost use Rattle.voice_units.specs.Blocks.{BlockPair, pairs_at, has_pair, same_pair, distinct};
 ghost use Rattle.rope_table.specs.Table.{uses_by, pair_of, unused, uses_counted, live_counted, files_of, no_count, count_of};
-ghost use Rattle.rope_table.specs.Inside.{count_in, found_in, is_entered, entered_in, pair_named, touched, used_again, used_less, missing, needed, entries_made, is_live, weight_found};
+ghost use Rattle.rope_table.specs.Files.{is_filed};
+ghost use Rattle.rope_table.specs.Inside.{count_in, found_in, is_entered, entered_in, pair_named, touched, used_again, used_less, missing, needed, entries_made, is_live, weight_found, IsTallied, IsBehind};
 ghost use Rattle.rope_table.specs.declared.counts.BlockName.{BlockName};
 ghost use Rattle.rope_table.specs.declared.counts.Count.{Count};
 ghost use Rattle.rope_table.specs.declared.counts.Pass.TheVariants as pass_is;
@@ -195,6 +196,26 @@ fn has_live_again(count: &Option<Count>, live: bool) -> bool
     has_live(count) || live
 }
 
+// The numbers of a file follow, where a block of it has got a count. How many blocks live ropes have then.
+fn refile(
+    counts: &HashMap<BlockName, Count>,
+    files: &mut FileCounts,
+    live: u64,
+    file: RopeId,
+    old: &Option<Count>,
+    is: bool,
+) -> u64
+    requires behind { IsBehind counts.now.entries files.old live file old.now is }
+    requires room { is_filed files.old.files file ≡ false → 0 < files.old.spare }
+    ensures tallied { IsTallied counts.now files.new result }
+    ensures spare { files.old.spare ≤ files.new.spare + (if is_filed files.old.files file then 0 else 1) }
+{
+    let _most = counts.len();
+    let was = has_live(old);
+    files.change(file, old.is_none(), was, is);
+    live + u64::from(is) - u64::from(was)
+}
+
 impl Tally {
     // No counts. It takes no memory.
     fn new(alloc: Global) -> Tally
@@ -257,13 +278,10 @@ impl Tally {
         ensures entered { (pair : BlockPair) → is_entered self.new pair ≡ (same_pair (pair_named name) pair || is_entered self.old pair) }
         ensures spare { self.old.spare ≤ self.new.spare + (if is_entered self.old (pair_named name) then 0 else 1) }
     {
-        let _most = self.counts.len();
         let file = name.file;
         let old = put(&mut self.counts, name, count);
-        let was = has_live(&old);
         let is = count.live > 0;
-        self.files.change(file, old.is_none(), was, is);
-        self.live = self.live + u64::from(is) - u64::from(was);
+        self.live = refile(&self.counts, &mut self.files, self.live, file, &old, is);
     }
 
     // One more use of a block, which is not marked.
@@ -275,13 +293,10 @@ impl Tally {
         ensures entered { (pair : BlockPair) → is_entered self.new pair ≡ (same_pair (pair_named name) pair || is_entered self.old pair) }
         ensures spare { self.old.spare ≤ self.new.spare + (if is_entered self.old (pair_named name) then 0 else 1) }
     {
-        let _most = self.counts.len();
         let file = name.file;
         let old = put_raised(&mut self.counts, name, live);
-        let was = has_live(&old);
         let is = has_live_again(&old, live);
-        self.files.change(file, old.is_none(), was, is);
-        self.live = self.live + u64::from(is) - u64::from(was);
+        self.live = refile(&self.counts, &mut self.files, self.live, file, &old, is);
     }
 
     // One more use of a block that has one, and is not marked. False where it has none, and then nothing changes.
@@ -292,15 +307,13 @@ impl Tally {
         ensures counts { (pair : BlockPair) → count_in self.new pair ≡ cond (result && same_pair (pair_named name.now) pair) (used_again live (count_in self.old pair)) (count_in self.old pair) }
         ensures spare { self.old.spare ≤ self.new.spare }
     {
-        let _most = self.counts.len();
+        let file = name.file;
         let old = put_used(&mut self.counts, name, live);
         if old.is_none() {
             return false;
         }
-        let was = has_live(&old);
         let is = has_live_again(&old, live);
-        self.files.change(name.file, false, was, is);
-        self.live = self.live + u64::from(is) - u64::from(was);
+        self.live = refile(&self.counts, &mut self.files, self.live, file, &old, is);
         true
     }
 
@@ -427,9 +440,8 @@ fn touch_all(tally: &mut Tally, block: u32, pieces: &Pieces, live: bool, pass: P
             return;
         };
         let file = piece.file;
-        let first = piece.from / block;
-        let last = (piece.from + piece.len - 1) / block;
-        for index in first..last + 1 {
+        let blocks = piece.blocks(block);
+        for index in blocks.start..blocks.end {
             touch(tally, BlockName { file, index }, live, pass);
         }
     }
@@ -448,8 +460,9 @@ fn only_block(pieces: &Pieces, block: u32) -> Option<BlockName>
         return None;
     };
     let file = piece.file;
-    let index = piece.from / block;
-    if (piece.from + piece.len - 1) / block != index {
+    let blocks = piece.blocks(block);
+    let index = blocks.start;
+    if blocks.end != index + 1 {
         return None;
     }
     Some(BlockName { file, index })
@@ -466,9 +479,8 @@ fn are_used(tally: &Tally, block: u32, pieces: &Pieces) -> bool
             return false;
         };
         let file = piece.file;
-        let first = piece.from / block;
-        let last = (piece.from + piece.len - 1) / block;
-        for index in first..last + 1 {
+        let blocks = piece.blocks(block);
+        for index in blocks.start..blocks.end {
             if tally.uses(&BlockName { file, index }) == 0 {
                 return false;
             }

@@ -75,32 +75,34 @@ fn changed(before: FileCount, entered: bool, was: bool, is: bool) -> FileCount
     }
 }
 
-// A block of a file gets a count. The count that the file had.
+// A block of a file gets a count. The counts that the file had and has.
 fn change(
     files: &mut HashMap<RopeId, FileCount>,
     file: RopeId,
     entered: bool,
     was: bool,
     is: bool,
-) -> FileCount
+) -> (FileCount, FileCount)
     requires room { is_filed files.old.entries file ≡ false → 0 < spare files.old }
     requires fits { (file_of files.old.entries file).counted < 2 ^ 63 }
     requires live_fits { (file_of files.old.entries file).live < 2 ^ 63 }
     requires there { once was ≤ (file_of files.old.entries file).live }
-    ensures value { result ≡ file_of files.old.entries file }
-    ensures counts { (f : ℕ) → file_of files.new.entries f ≡ cond (file == f) (count_changed entered was is result) (file_of files.old.entries f) }
+    ensures before { result.0 ≡ file_of files.old.entries file }
+    ensures after { result.1 ≡ count_changed entered was is result.0 }
+    ensures counts { (f : ℕ) → file_of files.new.entries f ≡ cond (file == f) result.1 (file_of files.old.entries f) }
     ensures spare { spare files.old ≤ spare files.new + (if is_filed files.old.entries file then 0 else 1) }
-    ensures live { files_live files.new.entries + file_once result ≡ files_live files.old.entries + file_once (count_changed entered was is result) }
+    ensures live { files_live files.new.entries + file_once result.0 ≡ files_live files.old.entries + file_once result.1 }
 {
     let Some(place) = files.get_mut(&file) else {
         let none = no_blocks();
         let first = changed(none, entered, was, is);
         let _entered = files.insert(file, first);
-        return none;
+        return (none, first);
     };
     let before = *place;
-    *place = changed(before, entered, was, is);
-    before
+    let after = changed(before, entered, was, is);
+    *place = after;
+    (before, after)
 }
 
 // How many files live ropes have, as the count of one of them changes.
@@ -202,8 +204,7 @@ impl FileCounts {
             return;
         }
         let _most = self.files.len();
-        let before = change(&mut self.files, file, entered, was, is);
-        let after = changed(before, entered, was, is);
+        let (before, after) = change(&mut self.files, file, entered, was, is);
         self.live = recounted(self.live, before, after);
     }
 

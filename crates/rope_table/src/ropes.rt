@@ -2,8 +2,8 @@
 
 ghost use Rattle.std.specs.Prelude.{◌≡◌, ◌+◌, ◌<◌, ◌≤◌, None, IfSome, IfNone, IfOk, OnOk, OnSome, length, option_copied, slice_get, insert, remove, map, []};
 ghost use Rattle.counted_row.specs.Row.{IsChanged};
-ghost use Rattle.rope_table.specs.Table.{rope_of, number_above, with_rope, without_rope, settled, held_back, is_lower, IsInOrder, piece_count};
-ghost use Rattle.rope_table.specs.Inside.{place_of, lies_below, is_within, standing_of, standing_if, standing_at};
+ghost use Rattle.rope_table.specs.Table.{rope_of, number_above, with_rope, without_rope, held_back, is_lower, IsInOrder, piece_count};
+ghost use Rattle.rope_table.specs.Inside.{place_of, lies_below, is_within, standing_of, standing_if, standing_at, rested};
 
 use crate::copies::{Duplicate, copied};
 use counted_row::CountedRow;
@@ -135,10 +135,17 @@ impl Rope {
         Some(was)
     }
 
-    // Where it has this number, no row names it any more since a moment. Gives what it was.
-    fn settle(&mut self, id: RopeId, idle: Moment, last: u8, wait: u32) -> Option<Standing>
+    // Where it has this number, since when it is idle, the class of the last row that it lost, and how long it waits; a row that names it still does, or none. Gives what it was.
+    fn rest(
+        &mut self,
+        id: RopeId,
+        idle: Moment,
+        last: u8,
+        wait: u32,
+        still: bool,
+    ) -> Option<Standing>
         ensures was { result ≡ standing_if id self.old }
-        ensures rope { self.new ≡ settled id idle last wait self.old }
+        ensures rope { self.new ≡ rested id idle last wait still self.old }
     {
         if self.id.number() != id.number() {
             return None;
@@ -147,7 +154,7 @@ impl Rope {
         self.idle = idle;
         self.last = last;
         self.wait = wait;
-        self.kept = false;
+        self.kept = still && self.kept;
         Some(was)
     }
 }
@@ -278,20 +285,21 @@ impl LiveRopes {
         Some(rope)
     }
 
-    /// No row names the rope of a number any more: since when, the class of the last row that it lost, and how long it waits. Gives what it was.
-    pub(crate) fn settle(
+    /// Since when the rope of a number is idle, the class of the last row that it lost, and how long it waits; a row that names it still does, or none. Gives what it was.
+    pub(crate) fn rest(
         &mut self,
         id: RopeId,
         idle: Moment,
         last: u8,
         wait: u32,
+        still: bool,
     ) -> Option<Standing>
         ensures was { result ≡ standing_at self.old.ropes id }
-        ensures ropes { self.new.ropes ≡ map (settled id idle last wait) self.old.ropes }
+        ensures ropes { self.new.ropes ≡ map (rested id idle last wait still) self.old.ropes }
         ensures room { self.new.room ≡ self.old.room }
     {
         change(&mut self.ropes, id.number(), |rope| {
-            rope.settle(id, idle, last, wait)
+            rope.rest(id, idle, last, wait, still)
         })?
     }
 

@@ -5,7 +5,8 @@ ghost use Rattle.std.specs.List.{list_all};
 ghost use Rattle.voice_units.specs.declared.Piece.{Piece};
 ghost use Rattle.voice_units.specs.Spots.{spots_of};
 ghost use Rattle.voice_units.specs.Blocks.{BlockPair, pairs_at, has_pair};
-ghost use Rattle.rope_table.specs.Table.{rope_of, number_above, with_rope, with_due, without_rope, settled, held_back, made_rope, pieces_at, idle_at, last_at, wait_at, kept_at, uses_by, uses_in, pieces_in, pair_of, uses_at, index_of, due_at, as_pair, piece_count, block_count, file_count, Counts, new_pairs, IsTable};
+ghost use Rattle.rope_table.specs.Table.{rope_of, number_above, with_rope, with_due, without_rope, settled, idled, held_back, made_rope, pieces_at, idle_at, last_at, wait_at, kept_at, uses_by, uses_in, pieces_in, pair_of, uses_at, index_of, due_at, as_pair, piece_count, block_count, file_count, Counts, new_pairs, IsTable};
+ghost use Rattle.rope_table.specs.Inside.{rested};
 
 use crate::counts::UseCounts;
 use crate::dues::{Due, DueOrder};
@@ -303,11 +304,40 @@ impl RopeTable {
         ensures spare_ropes { self.old.spare_ropes ≤ self.new.spare_ropes }
         ensures spare_pairs { self.new.spare_pairs ≡ self.old.spare_pairs }
     {
-        let Some(was) = self.ropes.settle(id, idle, last, wait) else {
+        self.rest(id, idle, last, wait, false);
+    }
+
+    /// Since when the rope of a number is idle, the class of the last row that it lost, and how long it waits. Where it is not live nothing changes. It takes no memory.
+    pub fn set_idle(&mut self, id: RopeId, idle: Moment, last: u8, wait: u32)
+        requires { last ≤ 3 }
+        ensures ropes { self.new.ropes ≡ map (idled id idle last wait) self.old.ropes }
+        ensures block { self.new.block ≡ self.old.block }
+        ensures uses { (pair : BlockPair) → uses_at self.new pair ≡ uses_at self.old pair }
+        ensures counts { (held : List (List Piece)) → Counts self.old held → Counts self.new held }
+        ensures spare_ropes { self.old.spare_ropes ≤ self.new.spare_ropes }
+        ensures spare_pairs { self.new.spare_pairs ≡ self.old.spare_pairs }
+    {
+        self.rest(id, idle, last, wait, true);
+    }
+
+    // The same of both; a row that keeps the rope still does, or none.
+    fn rest(&mut self, id: RopeId, idle: Moment, last: u8, wait: u32, still: bool)
+        requires { last ≤ 3 }
+        ensures ropes { self.new.ropes ≡ map (rested id idle last wait still) self.old.ropes }
+        ensures block { self.new.block ≡ self.old.block }
+        ensures uses { (pair : BlockPair) → uses_at self.new pair ≡ uses_at self.old pair }
+        ensures counts { (held : List (List Piece)) → Counts self.old held → Counts self.new held }
+        ensures spare_ropes { self.old.spare_ropes ≤ self.new.spare_ropes }
+        ensures spare_pairs { self.new.spare_pairs ≡ self.old.spare_pairs }
+    {
+        let Some(was) = self.ropes.rest(id, idle, last, wait, still) else {
             return;
         };
         let due = due_of(id, idle, wait);
         if was.kept {
+            if still {
+                return;
+            }
             self.dues.enter(due);
             return;
         }

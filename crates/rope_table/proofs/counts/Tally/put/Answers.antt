@@ -1,56 +1,21 @@
-use Rattle.std.proofs.Common.{◌≡◌, false, ◌+◌, ◌≤◌, ◌<◌, if◌then◌else◌, sym, ap, subst, arith}
+use Rattle.std.proofs.Common.{◌≡◌, false, ◌+◌, ◌≤◌, ◌<◌, if◌then◌else◌, sym, subst, arith}
 use Rattle.std.specs.Prelude.{min}
 use Rattle.std.specs.HashMap.{spare}
-use Rattle.rope_table.specs.Inside.{Tallied, is_entered, pair_named, once, is_live}
-use Rattle.rope_table.proofs.Lives.{live_most, counted_most, lives_most, filed_where, less_room, there_live, once_le, as_once, live_put, tallied_put}
+use Rattle.rope_table.specs.Inside.{Tallied, is_entered, pair_named}
+use Rattle.rope_table.proofs.Lives.{filed_where, less_room, behind_put}
 use Rattle.rope_table.proofs.counts.Tally.put.Goals as goal
 
-pub change-requires-clause-room : goal.change-requires-clause-room
-change-requires-clause-room c = λ none.
+pub refile-self-inside-requires-clause-behind : goal.refile-self-inside-requires-clause-behind
+refile-self-inside-requires-clause-behind c = behind_put c.self.inside.counts c.put-old.new.counts.entries c.self.inside.files c.self.inside.live c.args.name c.args.count c.put-old.result c.self.invariant c.put-old.ensures.sums c.put-old.ensures.result
+
+pub refile-self-inside-requires-clause-room : goal.refile-self-inside-requires-clause-room
+refile-self-inside-requires-clause-room c = λ none.
     let new = filed_where c.self.inside.counts.entries c.self.inside.files.files c.args.name c.self.invariant.counted none in
     let some = subst (λ (v : Tallied). is_entered v (pair_named c.args.name) ≡ false → 0 < v.spare) (sym c.self.view_is) c.requires new in
     omega (arith, some)
 
-pub change-requires-clause-fits : goal.change-requires-clause-fits
-change-requires-clause-fits c =
-    let most = counted_most c.args.name.file c.self.inside.counts.entries in
-    omega (arith, most, c.self.invariant.counted c.args.name.file, c.len-most.ensures.len, c.len-most.ensures.small)
-
-pub change-requires-clause-live_fits : goal.change-requires-clause-live_fits
-change-requires-clause-live_fits c =
-    let most = lives_most c.args.name.file c.self.inside.counts.entries in
-    omega (arith, most, c.self.invariant.lives c.args.name.file, c.len-most.ensures.len, c.len-most.ensures.small)
-
-pub change-requires-clause-there : goal.change-requires-clause-there
-change-requires-clause-there c =
-    let least = there_live c.self.inside.counts.entries c.args.name c.put-old.result c.put-old.ensures.result in
-    let same = ap once c.has_live-was.ensures in
-    omega (arith, least, same, c.self.invariant.lives c.args.name.file)
-
-pub overflow_add-self : goal.overflow_add-self
-overflow_add-self c =
-    let most = live_most c.self.inside.counts.entries in
-    let one = once_le (is_live c.args.count) in
-    let is = as_once c.from.result (is_live c.args.count) c.from.ensures in
-    omega (arith, most, one, is, c.self.invariant.total, c.len-most.ensures.len, c.len-most.ensures.small)
-
-pub overflow_sub-self : goal.overflow_sub-self
-overflow_sub-self c =
-    let all = live_put c.self.inside.counts.entries c.put-old.new.counts.entries c.args.name c.args.count c.put-old.result c.has_live-was.result c.put-old.ensures.sums c.has_live-was.ensures in
-    let is = as_once c.from.result (is_live c.args.count) c.from.ensures in
-    let was = as_once c.from-2.result c.has_live-was.result c.from-2.ensures in
-    omega (arith, all, is, was, c.self.invariant.total)
-
-pub invariant_of-self : goal.invariant_of-self
-invariant_of-self c =
-    let all = live_put c.self.inside.counts.entries c.put-old.new.counts.entries c.args.name c.args.count c.put-old.result c.has_live-was.result c.put-old.ensures.sums c.has_live-was.ensures in
-    let is = as_once c.from.result (is_live c.args.count) c.from.ensures in
-    let was = as_once c.from-2.result c.has_live-was.result c.from-2.ensures in
-    tallied_put c.self.inside.counts c.put-old.new.counts c.self.inside.files c.change.new.self c.self.inside.live _ c.args.name c.args.count c.put-old.result c.is_none.result c.has_live-was.result
-    c.self.invariant c.put-old.ensures.sums c.is_none.ensures c.has_live-was.ensures c.change.ensures.counted c.change.ensures.live (omega (arith, all, is, was, c.self.invariant.total))
-
 pub returns-clause-spare : goal.returns-clause-spare
 returns-clause-spare c =
     let less = less_room c.self.inside.counts.entries c.self.inside.files.files c.args.name c.self.invariant.counted in
-    subst (λ (v : Tallied). v.spare ≤ min (spare c.put-old.new.counts) c.change.new.self.spare + (if is_entered v (pair_named c.args.name) then 0 else 1)) c.self.view_is
-    (omega (arith, less, c.put-old.ensures.spare, c.change.ensures.spare))
+    subst (λ (v : Tallied). v.spare ≤ min (spare c.put-old.new.counts) c.refile-self-inside.new.files.spare + (if is_entered v (pair_named c.args.name) then 0 else 1)) c.self.view_is
+    (omega (arith, less, c.put-old.ensures.spare, c.refile-self-inside.ensures.spare))

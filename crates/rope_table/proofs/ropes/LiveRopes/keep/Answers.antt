@@ -1,10 +1,10 @@
 use Rattle.std.proofs.Common.{rules, ◌≡◌, map, None, ap, sym, refl, ◌∙◌}
 use Rattle.std.specs.Prelude.{slice_get}
-use Rattle.rope_table.specs.declared.ropes.Rope.{Rope}
 use Rattle.rope_table.specs.Table.{held_back}
 use Rattle.rope_table.specs.Inside.{Ropes, place_of, lies_below, standing_at}
 use Rattle.rope_table.proofs.Edited.{changed_there, told_there, map_beyond, standing_beyond}
 use Rattle.rope_table.proofs.Totals.{live_changed}
+use Rattle.rope_table.proofs.Standings.{kept_as}
 use Rattle.rope_table.proofs.ropes.LiveRopes.keep.Goals as goal
 
 beyond : (c : goal.After-from_residual) → slice_get c.self.inside.ropes.items (place_of (lies_below c.args.id) c.self.inside.ropes.items) ≡ None
@@ -14,18 +14,18 @@ pub returns-in_err-change-clause-was : goal.returns-in_err-change-clause-was
 returns-in_err-change-clause-was c = c.from_residual.ensures ∙ standing_beyond c.args.id c.self.inside.ropes.items c.self.invariant.order (beyond c) ∙ ap (λ (v : Ropes). standing_at v.ropes c.args.id) c.self.view_is
 
 pub returns-in_err-change-clause-ropes : goal.returns-in_err-change-clause-ropes
-returns-in_err-change-clause-ropes c = c.in_err-change.ensures.same ∙ map_beyond c.args.id (λ (rope : Rope). record rope { kept = c.args.kept }) c.self.inside.ropes.items c.self.invariant.order (beyond c) ∙ ap (λ (v : Ropes). map (held_back c.args.id c.args.kept) v.ropes) c.self.view_is
+returns-in_err-change-clause-ropes c = c.in_err-change.ensures.same ∙ map_beyond c.args.id (kept_as c.args.kept) c.self.inside.ropes.items c.self.invariant.order (beyond c) ∙ ap (λ (v : Ropes). map (held_back c.args.id c.args.kept) v.ropes) c.self.view_is
 
 pub returns-clause-was : goal.returns-clause-was
 returns-clause-was c =
-    told_there _ _ c.args.id c.number.result (λ (rope : Rope). record rope { kept = c.args.kept }) c.self.inside.ropes.items _ _ c.self.invariant.order c.number.ensures.value (λ x y told called. search rules) c.in_ok-change.ensures.some
+    told_there _ _ c.args.id c.number.result (kept_as c.args.kept) c.self.inside.ropes.items _ _ c.self.invariant.order c.number.ensures.value (λ x y told called. search rules) c.in_ok-change.ensures.some
     ∙ ap (λ (v : Ropes). standing_at v.ropes c.args.id) c.self.view_is
 
 changed_now : (c : goal.In_ok-change) → c.change.new.ropes.items ≡ map (held_back c.args.id c.args.kept) c.self.inside.ropes.items
-changed_now c = changed_there _ _ c.args.id c.number.result (λ (rope : Rope). record rope { kept = c.args.kept }) c.self.inside.ropes.items _ _ c.self.invariant.order c.number.ensures.value (λ x y told called. search rules) c.in_ok-change.ensures.some
+changed_now c = changed_there _ _ c.args.id c.number.result (kept_as c.args.kept) c.self.inside.ropes.items _ _ c.self.invariant.order c.number.ensures.value (λ x y told called. search rules) c.in_ok-change.ensures.some
 
 pub invariant_of-self-2 : goal.invariant_of-self-2
-invariant_of-self-2 c = live_changed c.args.id (λ (rope : Rope). record rope { kept = c.args.kept }) (λ r. refl) (λ r. refl) c.self.inside.ropes.items _ c.self.inside.pieces c.self.invariant (changed_now c)
+invariant_of-self-2 c = live_changed c.args.id (kept_as c.args.kept) (λ r. refl) (λ r. refl) c.self.inside.ropes.items _ c.self.inside.pieces c.self.invariant (changed_now c)
 
 pub returns-clause-ropes : goal.returns-clause-ropes
 returns-clause-ropes c = changed_now c ∙ ap (λ (v : Ropes). map (held_back c.args.id c.args.kept) v.ropes) c.self.view_is
