@@ -8,6 +8,9 @@ none_is : (o : Option ℕ) (P : Type 0) (Q : ℕ → Type 0) → o ≡ None → 
 none_is None P Q e m = m
 none_is (Some x) P Q e m = cc
 
+differ : {P : Type 0} → true ≡ false → P
+differ e = cc
+
 pub returns-then-a-b-clause-current : goal.returns-then-a-b-clause-current
 returns-then-a-b-clause-current c =
     λ shape image heads.
@@ -52,9 +55,6 @@ returns-in-Some-None-clause-current c =
     λ shape image heads.
     let a = c.in-Some-None.ensures.value in
     first_wins shape c.args.first.now c.args.second.now image heads _ c.in-Some-None.a refl a.0 a.1 (λ k. differ (sym k ∙ c.in-Some-None.ensures'.value))
-  where
-    differ : {P : Type 0} → true ≡ false → P
-    differ e = cc
 
 pub returns-in-Some-None-clause-other : goal.returns-in-Some-None-clause-other
 returns-in-Some-None-clause-other c =
@@ -67,9 +67,6 @@ returns-in-None-Some-clause-current c =
     λ shape image heads.
     let b = c.in-None-Some.ensures.value in
     second_wins shape c.args.first.now c.args.second.now image heads _ c.in-None-Some.b refl b.0 b.1 (λ k. differ (sym k ∙ none_is _ _ _ c.in-None-Some.is-0 c.head_epoch.ensures.value))
-  where
-    differ : {P : Type 0} → true ≡ false → P
-    differ e = cc
 
 pub returns-in-None-Some-clause-other : goal.returns-in-None-Some-clause-other
 returns-in-None-Some-clause-other c =

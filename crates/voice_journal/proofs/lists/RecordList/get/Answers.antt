@@ -5,25 +5,20 @@ use Rattle.voice_journal.specs.Lent.{lent, AreWithin}
 use Rattle.voice_journal.specs.Readings.{record_at}
 use Rattle.voice_journal.specs.declared.lists.Span.{Span}
 use Rattle.voice_journal.proofs.Lending.{lent_at, lent_past, within_at}
+use Rattle.voice_journal.proofs.lists.RecordList.get.Goals.{In-Some}
 use Rattle.voice_journal.proofs.lists.RecordList.get.Goals as goal
 
+-- the span ends within the bytes
+span_within : (c : In-Some) → c.in-Some.span.now.from + c.in-Some.span.now.len ≤ length c.self.inside.bytes.items
+span_within c =
+    let inside = subst (AreWithin (length c.self.inside.bytes.items)) (sym c.deref.ensures.value) c.self.invariant in
+    within_at (length c.self.inside.bytes.items) c.deref.result.now c.args.k c.in-Some.span.now inside c.in-Some.ensures.lookup.3.0 c.in-Some.ensures.lookup.1
+
 pub overflow_add-result : goal.overflow_add-result
-overflow_add-result c =
-    let bytes = c.self.inside.bytes.items in
-    let span = c.in-Some.span.now in
-    let inside = subst (AreWithin (length bytes)) (sym c.deref.ensures.value) c.self.invariant in
-    let end : span.from + span.len ≤ length bytes = within_at (length bytes) c.deref.result.now c.args.k span inside c.in-Some.ensures.lookup.3.0 c.in-Some.ensures.lookup.1 in
-    let size = ap length c.deref-in-Some.ensures.value in
-    omega (arith, end, size)
+overflow_add-result c = omega (arith, span_within (goal.at.overflow_add-result c).In-Some, ap length c.deref-in-Some.ensures.value)
 
 pub slice_bounds-result-end : goal.slice_bounds-result-end
-slice_bounds-result-end c =
-    let bytes = c.self.inside.bytes.items in
-    let span = c.in-Some.span.now in
-    let inside = subst (AreWithin (length bytes)) (sym c.deref.ensures.value) c.self.invariant in
-    let end : span.from + span.len ≤ length bytes = within_at (length bytes) c.deref.result.now c.args.k span inside c.in-Some.ensures.lookup.3.0 c.in-Some.ensures.lookup.1 in
-    let size = ap length c.deref-in-Some.ensures.value in
-    omega (arith, end, size)
+slice_bounds-result-end c = omega (arith, span_within (goal.at.slice_bounds-result-end c).In-Some, ap length c.deref-in-Some.ensures.value)
 
 pub returns-in-Some : goal.returns-in-Some
 returns-in-Some c =
