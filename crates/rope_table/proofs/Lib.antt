@@ -7,6 +7,7 @@ pub mod Sums
 pub mod Lives
 pub mod Filings
 pub mod Passes
+pub mod Apart
 pub mod Wholes
 pub mod Standings
 pub mod Checked

@@ -8,6 +8,9 @@
 --     found_in, entered_in entries pair; count_in, is_entered      a block's entry, if it has one;  a block's count, 0 and not marked where there is none, and whether it is entered
 --     once, is_live, live_in entries      1 where it holds;  whether a live rope has the block of a count;  how many entries are of such blocks
 --     touched live pass count; used_again, used_less live count      what a pass makes of the count of a block;  the count with one use more, or less
+--     raises, lowers, goes_apart pass; is_met pass count      whether a pass gives one use more, one less, or marks no block;  whether it has met the block of a count
+--     AreApart block pieces      no piece has a block of one in front of it
+--     stands_behind last end file start, comes_below file index pair      an index of a file stands at or behind another;  a block stands in front of one
 --     count_changed entered was is count      the count of a file of which a block gets a count
 --     missing tally pairs      how many blocks have no count yet
 --     in_file, live_in_file f e, weight_found weigh name count      1 for an entry of a file, or of one that is live;  what a found entry weighs
@@ -15,18 +18,20 @@
 --     IsBehind counts files live file old is      they are those before a block of a file got a count
 --     AreSettled tally      no block is marked
 --     seen, IsWhole      the table of these parts;  the parts tell of the same ropes
-use Rattle.std.specs.Prelude.{◌≡◌, ℕ, suc, ◌+◌, ◌-◌, ◌^◌, ◌≤◌, ◌<◌, min, nat_lt, nat_le, Bool, true, false, not, ◌&&◌, ◌||◌, ◌==◌, cond, List, [], ◌∷◌, length, filter, slice_get, Option, Some, None, option_map, unwrap_or, is_some, IsSome}
+use Rattle.std.specs.Prelude.{◌≡◌, ℕ, suc, ◌+◌, ◌-◌, ◌^◌, ◌≤◌, ◌<◌, min, nat_lt, nat_le, Bool, true, false, not, ◌&&◌, ◌||◌, ◌==◌, cond, List, [], ◌∷◌, length, filter, take, slice_get, Option, Some, None, option_map, unwrap_or, is_some, IsSome}
 use Rattle.std.specs.HashMap.{HashMap}
 use Rattle.std.specs.List.{sum_by}
 use Rattle.std.specs.Map.{lookup}
-use Rattle.voice_units.specs.Blocks.{BlockPair, distinct}
+use Rattle.voice_units.specs.declared.Piece.{Piece}
+use Rattle.voice_units.specs.Spots.{spots_in, spots_of}
+use Rattle.voice_units.specs.Blocks.{BlockPair, pairs_at, has_pair, distinct}
 use Rattle.rope_table.specs.declared.ropes.Rope.{Rope}
 use Rattle.rope_table.specs.declared.ropes.Standing.{Standing}
 use Rattle.rope_table.specs.declared.dues.Due.{Due}
 use Rattle.rope_table.specs.declared.counts.BlockName.{BlockName}
 use Rattle.rope_table.specs.declared.counts.Count.{Count}
 use Rattle.rope_table.specs.declared.counts.Pass.{Pass}
-use Rattle.rope_table.specs.declared.counts.Pass.TheVariants.{Raise, Lower, Settle}
+use Rattle.rope_table.specs.declared.counts.Pass.TheVariants.{Raise, Lower, Settle, RaiseApart, LowerApart}
 use Rattle.rope_table.specs.declared.files.FileCount.{FileCount}
 use Rattle.rope_table.specs.Files.{Filed, file_of}
 use Rattle.rope_table.specs.Table.{Table, IsTable, Every, IsInOrder, is_lower, rope_of, piece_count, index_of, name_eq, name_of, no_count, count_of, live_counted, uses_in, pieces_in}
@@ -151,6 +156,8 @@ abbrev pub touched : Bool → Pass → Count → Count
 touched live Raise count = record { uses = cond count.marked count.uses (count.uses + 1); live = cond count.marked count.live (count.live + once live); marked = true }
 touched live Lower count = record { uses = cond count.marked count.uses (count.uses - 1); live = cond count.marked count.live (count.live - once live); marked = true }
 touched live Settle count = record { uses = count.uses; live = count.live; marked = false }
+touched live RaiseApart count = record { uses = count.uses + 1; live = count.live + once live; marked = false }
+touched live LowerApart count = record { uses = count.uses - 1; live = count.live - once live; marked = false }
 
 -- the count of a block with one more use, not marked
 abbrev pub used_again : Bool → Count → Count
@@ -173,12 +180,55 @@ abbrev pub needed : Pass → Tallied → List BlockPair → ℕ
 needed Raise tally pairs = missing tally pairs
 needed Lower tally pairs = 0
 needed Settle tally pairs = 0
+needed RaiseApart tally pairs = missing tally pairs
+needed LowerApart tally pairs = 0
 
 -- how many entries a pass makes for a block, which is entered or not
 abbrev pub entries_made : Pass → Bool → ℕ
 entries_made Raise entered = cond entered 0 1
 entries_made Lower entered = 0
 entries_made Settle entered = 0
+entries_made RaiseApart entered = cond entered 0 1
+entries_made LowerApart entered = 0
+
+-- whether a pass gives blocks one use more, or one less
+abbrev pub raises : Pass → Bool
+raises Raise = true
+raises Lower = false
+raises Settle = false
+raises RaiseApart = true
+raises LowerApart = false
+
+abbrev pub lowers : Pass → Bool
+lowers Raise = false
+lowers Lower = true
+lowers Settle = false
+lowers RaiseApart = false
+lowers LowerApart = true
+
+-- whether a pass goes over blocks of which none comes twice, and marks none
+abbrev pub goes_apart : Pass → Bool
+goes_apart Raise = false
+goes_apart Lower = false
+goes_apart Settle = false
+goes_apart RaiseApart = true
+goes_apart LowerApart = true
+
+-- whether a pass has met the block of a count, as far as its mark tells
+abbrev pub is_met : Pass → Count → Bool
+is_met pass count = cond (goes_apart pass) false count.marked
+
+-- no piece has a block of one in front of it
+abbrev pub AreApart : ℕ → List Piece → Type 0
+AreApart block ps = (k : ℕ) (piece : Piece) (q : BlockPair) → slice_get ps k ≡ Some piece → has_pair (pairs_at block (spots_in piece)) q ≡ true → has_pair (pairs_at block (spots_of (take k ps))) q ≡ false
+
+-- whether an index of a file stands at or behind another, by files and then by indexes
+abbrev pub stands_behind : ℕ → ℕ → ℕ → ℕ → Bool
+stands_behind last end file start = nat_lt last file || ((last == file) && nat_le end start)
+
+-- whether a block stands in front of an index of a file
+abbrev pub comes_below : ℕ → ℕ → BlockPair → Bool
+comes_below file index q = nat_lt q.file file || ((q.file == file) && nat_lt q.index index)
 
 -- the number of entries of blocks that live ropes have is kept, and in each file the number of entries and of those
 pub record IsTallied {S : Type 0} (counts : HashMap BlockName Count S) (files : Filed) (live : ℕ) : Type 0 where

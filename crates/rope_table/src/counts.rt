@@ -1,13 +1,13 @@
 //! How many live ropes and held passages use each block, and how many blocks live ropes use.
 
-ghost use Rattle.std.specs.Prelude.{◌≡◌, ℕ, ◌+◌, ◌^◌, ◌<◌, ◌≤◌, true, false, List, length, IfOk, OnOk, IfSome, if◌then◌else◌, ◌||◌, ◌&&◌, cond, nat_lt, None, is_some, option_map, unwrap_or};
+ghost use Rattle.std.specs.Prelude.{◌≡◌, ℕ, ◌+◌, ◌^◌, ◌<◌, ◌≤◌, true, false, List, length, IfOk, OnOk, IfSome, if◌then◌else◌, ◌||◌, ◌&&◌, ◌==◌, cond, nat_lt, nat_le, None, is_some, option_map, unwrap_or};
 ghost use Rattle.std.specs.HashMap.{spare};
 ghost use Rattle.std.specs.List.{sum_by, list_all};
 ghost use Rattle.voice_units.specs.Spots.{spots_of};
 ghost use Rattle.voice_units.specs.Blocks.{BlockPair, pairs_at, has_pair, same_pair, distinct};
 ghost use Rattle.rope_table.specs.Table.{uses_by, pair_of, unused, uses_counted, live_counted, files_of, no_count, count_of};
 ghost use Rattle.rope_table.specs.Files.{is_filed};
-ghost use Rattle.rope_table.specs.Inside.{count_in, found_in, is_entered, entered_in, pair_named, touched, used_again, used_less, missing, needed, entries_made, is_live, weight_found, IsTallied, IsBehind};
+ghost use Rattle.rope_table.specs.Inside.{count_in, found_in, is_entered, entered_in, pair_named, touched, used_again, used_less, missing, needed, entries_made, is_live, weight_found, raises, lowers, goes_apart, is_met, stands_behind, AreApart, IsTallied, IsBehind};
 ghost use Rattle.rope_table.specs.declared.counts.BlockName.{BlockName};
 ghost use Rattle.rope_table.specs.declared.counts.Count.{Count};
 ghost use Rattle.rope_table.specs.declared.counts.Pass.TheVariants as pass_is;
@@ -34,12 +34,14 @@ pub(crate) struct Count {
     marked: bool,
 }
 
-/// What is done to the count of each block of some pieces. A list of pieces may have a block more than once: the first meeting counts and marks it.
+/// What is done to the count of each block of some pieces. A list of pieces may have a block more than once: the first meeting counts and marks it. Where no block comes twice, none is marked.
 #[derive(Clone, Copy)]
 pub(crate) enum Pass {
     Raise,
     Lower,
     Settle,
+    RaiseApart,
+    LowerApart,
 }
 
 /// The counts of blocks, and what they come to in each file. Contracts see the entries, and for how many more there is room.
@@ -159,6 +161,43 @@ fn put_used(counts: &mut HashMap<BlockName, Count>, name: &BlockName, live: bool
         return None;
     }
     *place = raised(old, live, false);
+    Some(old)
+}
+
+// A count with one use less, marked or not.
+fn lowered(count: Count, live: bool, marked: bool) -> Count
+    ensures { result ≡ record (used_less live count) { marked = marked } }
+{
+    Count {
+        uses: count.uses.saturating_sub(1),
+        live: count.live.saturating_sub(u32::from(live)),
+        marked,
+    }
+}
+
+// Whether a block of a count has no use.
+fn has_no_use(count: &Count) -> bool
+    ensures { result ≡ ((count.now.uses == 0) && (count.now.live == 0)) }
+{
+    count.uses == 0 && count.live == 0
+}
+
+// One use less of a block, which is not marked; without a count nothing changes. The count that it had.
+fn put_lowered(
+    counts: &mut HashMap<BlockName, Count>,
+    name: &BlockName,
+    live: bool,
+) -> Option<Count>
+    ensures result { result ≡ found_in counts.old.entries (pair_named name.now) }
+    ensures counts { (pair : BlockPair) → count_of counts.new.entries pair ≡ cond (is_some result && same_pair (pair_named name.now) pair) (used_less live (count_of counts.old.entries pair)) (count_of counts.old.entries pair) }
+    ensures spare { spare counts.old ≤ spare counts.new }
+    ensures sums { (weigh : BlockName × Count → ℕ) → sum_by weigh counts.new.entries + weight_found weigh name.now result ≡ sum_by weigh counts.old.entries + weight_found weigh name.now (option_map (used_less live) result) }
+{
+    let Some(place) = counts.get_mut(name) else {
+        return None;
+    };
+    let old = *place;
+    *place = lowered(old, live, false);
     Some(old)
 }
 
@@ -317,6 +356,30 @@ impl Tally {
         true
     }
 
+    // One use less of a block, which is not marked. Whether it has no use then.
+    fn put_lowered(&mut self, name: &BlockName, live: bool) -> bool
+        requires { is_entered self.old (pair_named name.now) ≡ true }
+        ensures value { result ≡ ((count_in self.new (pair_named name.now)).uses == 0 && (count_in self.new (pair_named name.now)).live == 0) }
+        ensures counts { (pair : BlockPair) → count_in self.new pair ≡ cond (same_pair (pair_named name.now) pair) (used_less live (count_in self.old pair)) (count_in self.old pair) }
+        ensures spare { self.old.spare ≤ self.new.spare }
+    {
+        let old = put_lowered(&mut self.counts, name, live);
+        let Some(count) = old else {
+            return false;
+        };
+        let now = lowered(count, live, false);
+        let is = now.live > 0;
+        self.live = refile(
+            &self.counts,
+            &mut self.files,
+            self.live,
+            name.file,
+            &old,
+            is,
+        );
+        has_no_use(&now)
+    }
+
     // A block has no count any longer.
     fn take(&mut self, name: &BlockName)
         ensures counts { (pair : BlockPair) → count_in self.new pair ≡ cond (same_pair (pair_named name.now) pair) no_count (count_in self.old pair) }
@@ -379,12 +442,7 @@ fn lower(tally: &mut Tally, name: BlockName, live: bool)
     if count.marked {
         return;
     }
-    let less = Count {
-        uses: count.uses.saturating_sub(1),
-        live: count.live.saturating_sub(u32::from(live)),
-        marked: true,
-    };
-    tally.put(name, less);
+    tally.put(name, lowered(count, live, true));
 }
 
 // A block is not marked any longer, and without a use it goes.
@@ -409,28 +467,31 @@ fn settle(tally: &mut Tally, name: BlockName)
 
 // What a pass does to one block.
 fn touch(tally: &mut Tally, name: BlockName, live: bool, pass: Pass)
-    requires room { pass ≡ pass_is.Raise → is_entered tally.old (pair_named name) ≡ false → 0 < tally.old.spare }
-    requires fits { pass ≡ pass_is.Raise → (count_in tally.old (pair_named name)).marked ≡ false → (count_in tally.old (pair_named name)).uses + 1 < 2 ^ 32 }
-    requires live_fits { pass ≡ pass_is.Raise → (count_in tally.old (pair_named name)).marked ≡ false → (count_in tally.old (pair_named name)).live + 1 < 2 ^ 32 }
-    requires there { pass ≡ pass_is.Lower → is_entered tally.old (pair_named name) ≡ true }
+    requires room { raises pass ≡ true → is_entered tally.old (pair_named name) ≡ false → 0 < tally.old.spare }
+    requires fits { raises pass ≡ true → is_met pass (count_in tally.old (pair_named name)) ≡ false → (count_in tally.old (pair_named name)).uses + 1 < 2 ^ 32 }
+    requires live_fits { raises pass ≡ true → is_met pass (count_in tally.old (pair_named name)) ≡ false → (count_in tally.old (pair_named name)).live + 1 < 2 ^ 32 }
+    requires there { lowers pass ≡ true → is_entered tally.old (pair_named name) ≡ true }
     ensures counts { (pair : BlockPair) → count_in tally.new pair ≡ cond (same_pair (pair_named name) pair) (touched live pass (count_in tally.old pair)) (count_in tally.old pair) }
-    ensures entered { pass ≡ pass_is.Raise → (pair : BlockPair) → is_entered tally.new pair ≡ (same_pair (pair_named name) pair || is_entered tally.old pair) }
+    ensures entered { raises pass ≡ true → (pair : BlockPair) → is_entered tally.new pair ≡ (same_pair (pair_named name) pair || is_entered tally.old pair) }
     ensures spare { tally.old.spare ≤ tally.new.spare + entries_made pass (is_entered tally.old (pair_named name)) }
 {
     match pass {
         Pass::Raise => raise(tally, name, live),
         Pass::Lower => lower(tally, name, live),
         Pass::Settle => settle(tally, name),
+        Pass::RaiseApart => raise_alone(tally, name, live),
+        Pass::LowerApart => lower_alone(tally, name, live),
     }
 }
 
 // What a pass does to each block of some pieces, which are a live rope's or not.
 fn touch_all(tally: &mut Tally, block: u32, pieces: &Pieces, live: bool, pass: Pass)
     requires some { 0 < block }
-    requires room { pass ≡ pass_is.Raise → missing tally.old (pairs_at block (spots_of pieces.now)) ≤ tally.old.spare }
-    requires fits { pass ≡ pass_is.Raise → (pair : BlockPair) → has_pair (pairs_at block (spots_of pieces.now)) pair ≡ true → (count_in tally.old pair).uses + 1 < 2 ^ 32 }
-    requires live_fits { pass ≡ pass_is.Raise → (pair : BlockPair) → has_pair (pairs_at block (spots_of pieces.now)) pair ≡ true → (count_in tally.old pair).live + 1 < 2 ^ 32 }
-    requires there { pass ≡ pass_is.Lower → (pair : BlockPair) → has_pair (pairs_at block (spots_of pieces.now)) pair ≡ true → 1 ≤ (count_in tally.old pair).uses }
+    requires apart { goes_apart pass ≡ true → AreApart block pieces.now }
+    requires room { raises pass ≡ true → missing tally.old (pairs_at block (spots_of pieces.now)) ≤ tally.old.spare }
+    requires fits { raises pass ≡ true → (pair : BlockPair) → has_pair (pairs_at block (spots_of pieces.now)) pair ≡ true → (count_in tally.old pair).uses + 1 < 2 ^ 32 }
+    requires live_fits { raises pass ≡ true → (pair : BlockPair) → has_pair (pairs_at block (spots_of pieces.now)) pair ≡ true → (count_in tally.old pair).live + 1 < 2 ^ 32 }
+    requires there { lowers pass ≡ true → (pair : BlockPair) → has_pair (pairs_at block (spots_of pieces.now)) pair ≡ true → 1 ≤ (count_in tally.old pair).uses }
     ensures counts { (pair : BlockPair) → count_in tally.new pair ≡ cond (has_pair (pairs_at block (spots_of pieces.now)) pair) (touched live pass (count_in tally.old pair)) (count_in tally.old pair) }
     ensures spare { tally.old.spare ≤ tally.new.spare + needed pass tally.old (pairs_at block (spots_of pieces.now)) }
 {
@@ -445,6 +506,36 @@ fn touch_all(tally: &mut Tally, block: u32, pieces: &Pieces, live: bool, pass: P
             touch(tally, BlockName { file, index }, live, pass);
         }
     }
+}
+
+// Whether an index of a file stands at or behind another, by files and then by indexes.
+fn stands_behind(last: u64, end: u32, file: u64, start: u32) -> bool
+    ensures { result ≡ stands_behind last end file start }
+{
+    last < file || (last == file && end <= start)
+}
+
+// Whether the blocks of pieces rise, by files and then by indexes: then none comes twice.
+fn are_apart(pieces: &Pieces, block: u32) -> bool
+    requires { 0 < block }
+    ensures { result ≡ true → AreApart block pieces.now }
+{
+    let _length = pieces.length();
+    let mut last = 0;
+    let mut end = 0;
+    for k in 0..pieces.count() {
+        let Some(piece) = pieces.piece(k) else {
+            return false;
+        };
+        let file = piece.file.number();
+        let blocks = piece.blocks(block);
+        if !stands_behind(last, end, file, blocks.start) {
+            return false;
+        }
+        last = file;
+        end = blocks.end;
+    }
+    true
 }
 
 // The block of pieces that lie in one, of one piece: its count needs no mark.
@@ -495,6 +586,7 @@ fn raise_alone(tally: &mut Tally, name: BlockName, live: bool)
     requires fits { (count_in tally.old (pair_named name)).uses + 1 < 2 ^ 32 }
     requires live_fits { (count_in tally.old (pair_named name)).live + 1 < 2 ^ 32 }
     ensures counts { (pair : BlockPair) → count_in tally.new pair ≡ cond (same_pair (pair_named name) pair) (used_again live (count_in tally.old pair)) (count_in tally.old pair) }
+    ensures entered { (pair : BlockPair) → is_entered tally.new pair ≡ (same_pair (pair_named name) pair || is_entered tally.old pair) }
     ensures spare { tally.old.spare ≤ tally.new.spare + (if is_entered tally.old (pair_named name) then 0 else 1) }
 {
     tally.put_raised(name, live);
@@ -506,23 +598,9 @@ fn lower_alone(tally: &mut Tally, name: BlockName, live: bool)
     ensures counts { (pair : BlockPair) → count_in tally.new pair ≡ cond (same_pair (pair_named name) pair) (used_less live (count_in tally.old pair)) (count_in tally.old pair) }
     ensures spare { tally.old.spare ≤ tally.new.spare }
 {
-    let Some(count) = tally.get(&name) else {
-        return;
-    };
-    let uses = count.uses.saturating_sub(1);
-    let lives = count.live.saturating_sub(u32::from(live));
-    if uses == 0 && lives == 0 {
+    if tally.put_lowered(&name, live) {
         tally.take(&name);
-        return;
     }
-    tally.put(
-        name,
-        Count {
-            uses,
-            live: lives,
-            marked: false,
-        },
-    );
 }
 
 impl UseCounts {
@@ -601,8 +679,8 @@ impl UseCounts {
         ensures live { (pair : BlockPair) → live_counted self.new.counts pair ≡ live_counted self.old.counts pair + cond live (uses_by self.old.block pieces.now pair) 0 }
         ensures spare { self.old.spare ≤ self.new.spare + unused (uses_counted self.old.counts) (pairs_at self.old.block (spots_of pieces.now)) }
     {
-        if let Some(name) = only_block(pieces, self.block) {
-            raise_alone(&mut self.tally, name, live);
+        if are_apart(pieces, self.block) {
+            touch_all(&mut self.tally, self.block, pieces, live, Pass::RaiseApart);
             return;
         }
         touch_all(&mut self.tally, self.block, pieces, live, Pass::Raise);
@@ -625,6 +703,10 @@ impl UseCounts {
         if !are_used(&self.tally, self.block, pieces) {
             return false;
         }
+        if are_apart(pieces, self.block) {
+            touch_all(&mut self.tally, self.block, pieces, live, Pass::RaiseApart);
+            return true;
+        }
         touch_all(&mut self.tally, self.block, pieces, live, Pass::Raise);
         touch_all(&mut self.tally, self.block, pieces, live, Pass::Settle);
         true
@@ -639,8 +721,8 @@ impl UseCounts {
         ensures live { (pair : BlockPair) → live_counted self.new.counts pair + cond live (uses_by self.old.block pieces.now pair) 0 ≡ live_counted self.old.counts pair }
         ensures spare { self.old.spare ≤ self.new.spare }
     {
-        if let Some(name) = only_block(pieces, self.block) {
-            lower_alone(&mut self.tally, name, live);
+        if are_apart(pieces, self.block) {
+            touch_all(&mut self.tally, self.block, pieces, live, Pass::LowerApart);
             return;
         }
         touch_all(&mut self.tally, self.block, pieces, live, Pass::Lower);

@@ -33,10 +33,25 @@ touch_all-requires-clause-room c = λ is.
     let none = none_unused (uses_counted c.self.inside.tally.counts) pairs (each_used (uses_counted c.self.inside.tally.counts) pairs (sym c.if-not-are_used.ensures)) in
     omega (arith, most, none)
 
+pub touch_all-requires-2-clause-room : goal.touch_all-requires-2-clause-room
+touch_all-requires-2-clause-room c = λ is.
+    let pairs = pairs_at c.self.inside.block (spots_of c.args.pieces.now) in
+    let most = missing_unused c.self.inside.tally pairs in
+    let none = none_unused (uses_counted c.self.inside.tally.counts) pairs (each_used (uses_counted c.self.inside.tally.counts) pairs (sym c.if-not-are_used.ensures)) in
+    omega (arith, most, none)
+
+pub returns-then-are_apart-clause-spare : goal.returns-then-are_apart-clause-spare
+returns-then-are_apart-clause-spare c =
+    let pairs = pairs_at c.self.inside.block (spots_of c.args.pieces.now) in
+    let most = missing_unused c.self.inside.tally pairs in
+    let none = none_unused (uses_counted c.self.inside.tally.counts) pairs (each_used (uses_counted c.self.inside.tally.counts) pairs (sym c.if-not-are_used.ensures)) in
+    subst (λ (v : Uses). v.spare ≤ c.touch_all.new.tally.spare) c.self.view_is
+    (omega (arith, most, none, c.touch_all.ensures.spare))
+
 pub returns-clause-spare : goal.returns-clause-spare
 returns-clause-spare c =
     let pairs = pairs_at c.self.inside.block (spots_of c.args.pieces.now) in
     let most = missing_unused c.self.inside.tally pairs in
     let none = none_unused (uses_counted c.self.inside.tally.counts) pairs (each_used (uses_counted c.self.inside.tally.counts) pairs (sym c.if-not-are_used.ensures)) in
-    subst (λ (v : Uses). v.spare ≤ c.touch_all-2.new.tally.spare) c.self.view_is
-    (omega (arith, most, none, c.touch_all.ensures.spare, c.touch_all-2.ensures.spare))
+    subst (λ (v : Uses). v.spare ≤ c.touch_all-3.new.tally.spare) c.self.view_is
+    (omega (arith, most, none, c.touch_all-2.ensures.spare, c.touch_all-3.ensures.spare))
