@@ -268,9 +268,9 @@ module _ (rows : List (NamedRow × ℕ)) (places fewer : List (ℕ × ℕ)) (nam
     row_stays q j e f p =
         let stands : stamp_in rows j ≡ Some q = h.stands q j p in
         let apart : (j == i) ≡ false = either (j == i) ((j == i) ≡ false)
-            (λ g. let same : j ≡ i = eqb-true j i g in
-            let own : stamp ≡ q = same_some stamp q (sym (ap (option_map (λ e. e.1)) at) ∙ ap (stamp_in rows) (sym same) ∙ stands) in g ∙ sym (eq-eqb stamp q own) ∙ f)
-            (λ g. g) in
+        (λ g. let same : j ≡ i = eqb-true j i g in
+        let own : stamp ≡ q = same_some stamp q (sym (ap (option_map (λ e. e.1)) at) ∙ ap (stamp_in rows) (sym same) ∙ stands) in g ∙ sym (eq-eqb stamp q own) ∙ f)
+        (λ g. g) in
         either (nat_lt j (length rows - 1)) _
         (λ g. at_left j g apart)
         (λ g. either (j == length rows - 1) _
@@ -296,13 +296,13 @@ module _ (rows : List (NamedRow × ℕ)) (places fewer : List (ℕ × ℕ)) (nam
         (λ g.
         let was : lookup (nat_eq q) places ≡ Some j = h.placed j q (sym (ap (option_map (λ e. e.1)) (at_left j g f)) ∙ e) in
         let other : is_that q (stamp_in left i) ≡ false = either (is_that q (stamp_in left i)) (is_that q (stamp_in left i) ≡ false)
-            (λ k. let m = moved_last q (that_one q (stamp_in left i) k) in
-            let same : j ≡ length rows - 1 = same_some _ _ (sym was ∙ m.1) in absurd (omega (arith, same, ltb-true j (length rows - 1) g)))
-            (λ k. k) in
+        (λ k. let m = moved_last q (that_one q (stamp_in left i) k) in
+        let same : j ≡ length rows - 1 = same_some _ _ (sym was ∙ m.1) in absurd (omega (arith, same, ltb-true j (length rows - 1) g)))
+        (λ k. k) in
         let apart : (stamp == q) ≡ false = either (stamp == q) ((stamp == q) ≡ false)
-            (λ k. let own : stamp ≡ q = eqb-true stamp q k in
-            let same : j ≡ i = same_some _ _ (sym was ∙ ap (λ s. lookup (nat_eq s) places) (sym own) ∙ own_place) in k ∙ sym (eq-eqb j i same) ∙ f)
-            (λ k. k) in
+        (λ k. let own : stamp ≡ q = eqb-true stamp q k in
+        let same : j ≡ i = same_some _ _ (sym was ∙ ap (λ s. lookup (nat_eq s) places) (sym own) ∙ own_place) in k ∙ sym (eq-eqb j i same) ∙ f)
+        (λ k. k) in
         not_moved q other ∙ ap (λ b. cond b None (lookup (nat_eq q) places)) apart ∙ was)
         (λ g. none_some q _ (sym (ap (option_map (λ e. e.1)) (none_beyond j g)) ∙ e)))
 

@@ -26,10 +26,7 @@ pub(crate) fn keys_under(rows: &StampedRows, stamps: &[u64]) -> Result<Vec<Key>,
 }
 
 /// The ropes of the rows of these stamps.
-pub(crate) fn ropes_under(
-    rows: &StampedRows,
-    stamps: &[u64],
-) -> Result<Vec<RopeId>, NoMemory>
+pub(crate) fn ropes_under(rows: &StampedRows, stamps: &[u64]) -> Result<Vec<RopeId>, NoMemory>
     ensures { IfOk result (λ ropes. AllKept (row_of rows.now) stamps.now → ropes.items ≡ map (λ s. (kept (row_of rows.now) s).rope) stamps.now) }
 {
     let mut ropes = Vec::new(rows.allocator());
