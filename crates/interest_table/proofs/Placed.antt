@@ -1,8 +1,8 @@
 -- Rows with their stamps, and the index of each stamp's row.
-use Rattle.std.proofs.Common.{◌≡◌, ℕ, ◌<◌, ◌≤◌, ◌+◌, ◌-◌, suc, zero, List, [], ◌∷◌, ◌++◌, map, take, length, ap, ap₂, ◌∙◌, sym, refl, subst, cond, Bool, true, false, ◌==◌, ◌&&◌, Option, Some, None, eq-eqb, arith}
-use Rattle.std.proofs.lemmas.Bool.{eqb-true, ltb-true, lt-ltb}
+use Rattle.std.proofs.Common.{◌≡◌, ℕ, ◌<◌, ◌≤◌, ◌-◌, suc, zero, List, [], ◌∷◌, ◌++◌, take, length, ap, ap₂, ◌∙◌, sym, refl, subst, cond, Bool, true, false, ◌==◌, ◌&&◌, Option, Some, None, eq-eqb, arith}
+use Rattle.std.proofs.lemmas.Bool.{eqb-true, ltb-true}
 use Rattle.std.specs.Prelude.{nat_lt, nat_eq, slice_get, slice_set, slice_index_or, position, swap_remove, unwrap_or, IsSome}
-use Rattle.std.specs.Map.{lookup, lookup_key, keys_of, values_of}
+use Rattle.std.specs.Map.{lookup, lookup_key, keys_of}
 use Rattle.std.specs.Option.{option_map, option_map_or}
 use Rattle.std.proofs.lemmas.Option.{slice_get-map, slice_get-get_or, slice_get_within}
 use Rattle.indexmap.specs.IndexMap.{swap_remove_entry}
@@ -13,7 +13,7 @@ use Rattle.interest_table.specs.contracts.stamped.NamedRowPartialEq.TheImpl as e
 use Rattle.voice_model.specs.declared.calls.Class.{Class}
 use Rattle.interest_table.specs.declared.stamped.NamedRow.{NamedRow}
 use Rattle.interest_table.proofs.Found.{both_ways}
-use Rattle.interest_table.specs.Inside.{same_name, stamp_at, stamp_in, row_in_place, row_under, row_found, is_that, ArePlaced}
+use Rattle.interest_table.specs.Inside.{same_name, stamp_at, stamp_in, row_in_place, row_under, is_that, ArePlaced}
 
 -- ---- lists
 
