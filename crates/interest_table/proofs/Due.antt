@@ -11,7 +11,7 @@ use Rattle.voice_model.specs.Changes.{is_expired}
 use Rattle.voice_model.specs.declared.calls.Row.{Row}
 use Rattle.voice_model.specs.declared.calls.Class.{Class}
 use Rattle.interest_table.specs.declared.expiries.Expiry.{Expiry}
-use Rattle.interest_table.specs.Inside.{Stamped, stamp_at, stamp_of, row_under, row_of, IsSame, IsTimed, no_row, kept, entry_of, row_in, AllKept, is_due, place, place_of, among, without, listed_of, Rises, AllFit, AreOrdered, IsDated, IsEntered, IsTaken, IsGained, IsLost, Leads, NoneDue, stamps_due, Grows, times}
+use Rattle.interest_table.specs.Inside.{Stamped, stamp_at, stamp_of, row_under, row_of, IsSame, IsTimed, no_row, kept, entry_of, row_in, AllKept, is_due, place, place_of, among, without, Rises, AllFit, AreOrdered, IsDated, IsEntered, IsTaken, IsGained, IsLost, Leads, NoneDue, stamps_due, Grows, times}
 use Rattle.interest_table.proofs.Found.{both_ways}
 use Rattle.interest_table.proofs.Listed.{low_absent, was_among, stays_among, last_among, among_push, among_either, own_among, or_true, bool_either, below_top, found_row}
 use Rattle.interest_table.proofs.Dated.{one_place}

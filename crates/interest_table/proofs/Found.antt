@@ -1,9 +1,8 @@
 -- Rows are found by class and key.
 use Rattle.std.proofs.Common.{◌≡◌, ℕ, List, [], ◌∷◌, ap, ap₂, ◌∙◌, sym, refl, cond, Bool, true, false, ◌==◌, Option, Some, None, ◌-◌, ◌+◌, arith}
 use Rattle.std.proofs.lemmas.Bool.{eqb-true, and_parts}
-use Rattle.std.specs.Prelude.{bytes_eq, not, filter}
+use Rattle.std.specs.Prelude.{not, filter}
 use Rattle.std.specs.Cmp.Lexicographic.{same_text}
-use Rattle.std.proofs.lemmas.Cmp.{nat_list_eq_equiv}
 use Rattle.voice_model.specs.State.{class_number, is_row, row_at}
 use Rattle.voice_model.specs.declared.calls.Row.{Row}
 use Rattle.voice_model.specs.declared.calls.Class.{Class}
@@ -12,7 +11,7 @@ use Rattle.std.specs.Prelude.{unwrap_or, nat_eq, is_ok, OnOk, Result, Ok, Err}
 use Rattle.indexmap.specs.IndexMap as index
 use Rattle.voice_model.specs.Valid.{Once}
 use Rattle.interest_table.specs.Table.{rows_of}
-use Rattle.interest_table.specs.Inside.{same_name, rows_counted}
+use Rattle.interest_table.specs.Inside.{rows_counted}
 
 pub both_ways : (a b : Bool) → (a ≡ true → b ≡ true) → (b ≡ true → a ≡ true) → a ≡ b
 both_ways true b f g = sym (f refl)

@@ -7,7 +7,7 @@ use Rattle.counted_row.specs.Row.{passing}
 use Rattle.voice_model.specs.State.{is_row, row_at}
 use Rattle.voice_model.specs.declared.calls.Row.{Row}
 use Rattle.voice_model.specs.declared.calls.Class.{Class}
-use Rattle.interest_table.specs.Inside.{no_row, kept, entry_of, row_in, same_name, Stamped, stamp_at, stamp_of, row_under, row_of, IsSame, row_found, among, without, Rises, IsListing}
+use Rattle.interest_table.specs.Inside.{no_row, kept, entry_of, row_in, same_name, Stamped, row_under, row_of, IsSame, row_found, among, without, Rises, IsListing}
 use Rattle.interest_table.proofs.Found.{both_ways, is_that_row}
 use Rattle.interest_table.proofs.Added.{own_row}
 

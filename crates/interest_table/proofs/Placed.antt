@@ -1,8 +1,8 @@
 -- Rows with their stamps, and the index of each stamp's row.
-use Rattle.std.proofs.Common.{◌≡◌, ℕ, ◌<◌, ◌≤◌, ◌+◌, ◌-◌, suc, zero, List, [], ◌∷◌, ◌++◌, map, take, length, ap, ap₂, ◌∙◌, sym, refl, subst, cond, Bool, true, false, ◌==◌, ◌&&◌, Option, Some, None, eq-eqb, arith}
-use Rattle.std.proofs.lemmas.Bool.{eqb-true, ltb-true, lt-ltb}
+use Rattle.std.proofs.Common.{◌≡◌, ℕ, ◌<◌, ◌≤◌, ◌-◌, suc, zero, List, [], ◌∷◌, ◌++◌, take, length, ap, ap₂, ◌∙◌, sym, refl, subst, cond, Bool, true, false, ◌==◌, ◌&&◌, Option, Some, None, eq-eqb, arith}
+use Rattle.std.proofs.lemmas.Bool.{eqb-true, ltb-true}
 use Rattle.std.specs.Prelude.{nat_lt, nat_eq, slice_get, slice_set, slice_index_or, position, swap_remove, unwrap_or, IsSome}
-use Rattle.std.specs.Map.{lookup, lookup_key, keys_of, values_of}
+use Rattle.std.specs.Map.{lookup, lookup_key, keys_of}
 use Rattle.std.specs.Option.{option_map, option_map_or}
 use Rattle.std.proofs.lemmas.Option.{slice_get-map, slice_get-get_or, slice_get_within}
 use Rattle.indexmap.specs.IndexMap.{swap_remove_entry}
@@ -13,10 +13,11 @@ use Rattle.interest_table.specs.contracts.stamped.NamedRowPartialEq.TheImpl as e
 use Rattle.voice_model.specs.declared.calls.Class.{Class}
 use Rattle.interest_table.specs.declared.stamped.NamedRow.{NamedRow}
 use Rattle.interest_table.proofs.Found.{both_ways}
-use Rattle.interest_table.specs.Inside.{same_name, stamp_at, stamp_in, row_in_place, row_under, row_found, is_that, ArePlaced}
+use Rattle.interest_table.specs.Inside.{same_name, stamp_at, stamp_in, row_in_place, row_under, is_that, ArePlaced}
 
 -- ---- lists
 
+-- numbers that are compared
 above_zero : (j : ℕ) → (suc j == 0) ≡ false
 above_zero j = by (suc j == 0) refl
   where
@@ -31,9 +32,11 @@ below_more j = by (0 == suc j) refl
     by true e = absurd (omega (arith, eqb-true 0 (suc j) e))
     by false e = refl
 
+-- as their predecessors are
 both_more : (i j : ℕ) → (suc j == suc i) ≡ (j == i)
 both_more i j = both_ways _ _ (λ k. eq-eqb j i (omega (arith, eqb-true (suc j) (suc i) k))) (λ k. eq-eqb (suc j) (suc i) (ap suc (eqb-true j i k)))
 
+-- an item in front of the place where a list is cut stays
 pub take_get : {X : Type 0} (xs : List X) (n j : ℕ) → j < n → slice_get (take n xs) j ≡ slice_get xs j
 take_get [] zero j h = absurd (omega (arith, h))
 take_get [] (suc n) j h = refl
@@ -41,6 +44,7 @@ take_get (x ∷ xs) zero j h = absurd (omega (arith, h))
 take_get (x ∷ xs) (suc n) zero h = refl
 take_get (x ∷ xs) (suc n) (suc j) h = take_get xs n j (omega (arith, h))
 
+-- and none lies behind it
 pub take_past : {X : Type 0} (xs : List X) (n j : ℕ) → n ≤ j → slice_get (take n xs) j ≡ None
 take_past [] zero j h = refl
 take_past [] (suc n) j h = refl
@@ -48,11 +52,13 @@ take_past (x ∷ xs) zero j h = refl
 take_past (x ∷ xs) (suc n) zero h = absurd (omega (arith, h))
 take_past (x ∷ xs) (suc n) (suc j) h = take_past xs n j (omega (arith, h))
 
+-- no item lies behind a list
 pub get_past : {X : Type 0} (xs : List X) (j : ℕ) → length xs ≤ j → slice_get xs j ≡ None
 get_past [] j h = refl
 get_past (x ∷ xs) zero h = absurd (omega (arith, h))
 get_past (x ∷ xs) (suc j) h = get_past xs j (omega (arith, h))
 
+-- the items once one was written
 pub get_set : {X : Type 0} (xs : List X) (i j : ℕ) (y : X) → i < length xs → slice_get (slice_set xs i y) j ≡ cond (j == i) (Some y) (slice_get xs j)
 get_set [] i j y h = absurd (omega (arith, h))
 get_set (x ∷ xs) zero zero y h = refl
@@ -60,6 +66,7 @@ get_set (x ∷ xs) zero (suc j) y h = sym (ap (λ b. cond b (Some y) (slice_get 
 get_set (x ∷ xs) (suc i) zero y h = sym (ap (λ b. cond b (Some y) (Some x)) (below_more i))
 get_set (x ∷ xs) (suc i) (suc j) y h = get_set xs i j y (omega (arith, h)) ∙ sym (ap (λ b. cond b (Some y) (slice_get xs j)) (both_more i j))
 
+-- the items once one was put last
 pub get_push : {X : Type 0} (xs : List X) (y : X) (j : ℕ) → slice_get (xs ++ y ∷ []) j ≡ cond (j == length xs) (Some y) (slice_get xs j)
 get_push [] y zero = refl
 get_push [] y (suc j) = sym (ap (λ b. cond b (Some y) None) (above_zero j))
@@ -86,6 +93,7 @@ either : (b : Bool) (P : Type 0) → (b ≡ true → P) → (b ≡ false → P) 
 either true P f g = f refl
 either false P f g = g refl
 
+-- what was found is one value
 same_some : {X : Type 0} (a b : X) → Some a ≡ Some b → a ≡ b
 same_some a b h = ap (λ o. unwrap_or o a) h
 
@@ -104,9 +112,11 @@ is_that_one n o e = ap (is_that n) e ∙ eq-eqb n n refl
 abbrev pub eq_named : NamedRow → NamedRow → Bool
 eq_named = (eq_impl.ghosts).eq
 
+-- it is that of the classes and keys
 pub named_as : (q other : NamedRow) → eq_named q other ≡ same_name q.row.class q.row.key other.row.class other.row.key
 named_as q other = λ i. nat_eq_equiv.symm (class_number q.row.class) (class_number other.row.class) i && nat_list_eq_equiv.symm q.row.key other.row.key i
 
+-- what a row is looked up by finds the stamp of its class and key
 pub stamp_found : (rows : List (NamedRow × ℕ)) (q : NamedRow) (class : Class) (key : List ℕ) → q.row.class ≡ class → q.row.key ≡ key → lookup (eq_named q) rows ≡ stamp_at rows class key
 stamp_found rows q class key e f = (λ i. lookup (λ other. named_as q other i) rows) ∙ ap₂ (stamp_at rows) e f
 
@@ -192,6 +202,7 @@ rows_more rows new places more named stamp index h unused at e put =
 
 -- ---- a row goes
 
+-- where the row at an index is found, the last comes into its place
 pub swapped : (test : NamedRow → Bool) (rows : List (NamedRow × ℕ)) (i : ℕ) (d : NamedRow × ℕ) → position test (keys_of rows) ≡ Some i → slice_get rows i ≡ Some d → swap_remove_entry test rows ≡ swap_remove rows i d
 swapped test [] i d p at = cc
 swapped test (e ∷ es) i d p at = ap (λ o. option_map_or (λ n. swap_remove (e ∷ es) n e) o (e ∷ es)) p ∙ swap_default (e ∷ es) i e d (omega arith)

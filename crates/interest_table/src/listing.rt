@@ -1,6 +1,6 @@
 //! Rows in order of making, each under a stamp that rises: a row goes without moving those behind it.
 
-ghost use Rattle.std.specs.Prelude.{◌≡◌, ℕ, ◌<◌, ◌≤◌, ◌+◌, ◌^◌, ◌++◌, ◌∷◌, [], List, Bool, true, None, Some, cond, length, not, filter, map, slice_get, nat_eq, option_copied, IfSome, IfNone, IfOk, OnOk, IsOk};
+ghost use Rattle.std.specs.Prelude.{◌≡◌, ◌<◌, ◌≤◌, ◌+◌, ◌++◌, ◌∷◌, [], true, None, Some, length, not, filter, map, slice_get, option_copied, IfSome, IfNone, IfOk, OnOk, IsOk};
 ghost use Rattle.voice_model.specs.State.{is_row, row_at};
 ghost use Rattle.interest_table.specs.Inside.{row_in};
 ghost use Rattle.interest_table.specs.Table.{expired_keys, expired_owners};

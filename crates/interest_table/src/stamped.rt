@@ -1,6 +1,6 @@
 //! Rows under stamps, found by class and key: a row lies once in memory, and its key with it.
 
-ghost use Rattle.std.specs.Prelude.{◌≡◌, ℕ, ◌<◌, ◌≤◌, ◌+◌, List, None, Some, IsSome, cond, nat_eq, option_copied, IfSome, IfNone, IfOk, OnOk, IsOk, length};
+ghost use Rattle.std.specs.Prelude.{◌≡◌, ℕ, ◌<◌, ◌≤◌, ◌+◌, List, None, Some, IsSome, cond, nat_eq, option_copied, IfSome, IfNone, IfOk, OnOk, IsOk};
 ghost use Rattle.std.specs.Option.{option_map};
 ghost use Rattle.std.specs.Map.{lookup};
 ghost use Rattle.indexmap.specs.IndexMap.{spare};

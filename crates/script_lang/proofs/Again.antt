@@ -1,9 +1,11 @@
 -- What is in the grammar is read.
-use Rattle.std.proofs.Common.{◌≡◌, ℕ, suc, ◌+◌, ◌^◌, ◌<◌, ◌≤◌, ◌⊎◌, inl, inr, Bool, true, false, cond, ◌&&◌, List, [], ◌∷◌, ◌++◌, length, get_or, drop, subst, sym, refl, ap, ◌∙◌, arith, Option, Some, None, Ok, Err, ltb}
+use Rattle.std.proofs.Common.{◌≡◌, ℕ, zero, suc, ◌+◌, ◌^◌, ◌<◌, ◌≤◌, ◌⊎◌, inl, inr, Bool, true, false, cond, ◌&&◌, List, [], ◌∷◌, ◌++◌, length, get_or, take, drop, subst, sym, refl, ap, ◌∙◌, arith, Option, Some, None, Ok, Err, ltb}
 use Rattle.std.specs.Prelude.{Result, IsTrue, codes}
 use Rattle.std.specs.Fmt.{decimal}
 use Rattle.std.specs.Str.{bytes_eq}
+use Rattle.std.proofs.lemmas.Bool.{cases_order}
 use Rattle.std.proofs.lemmas.Bool.Decides.{nat_tests}
+use Rattle.std.proofs.lemmas.List.{get_or-take}
 use Rattle.std.proofs.lemmas.Slice.Eq.{bytes_eq-Decides}
 use Rattle.script_lang.specs.declared.scripts.ScriptError.{ScriptError}
 use Rattle.script_lang.specs.declared.scripts.ScriptError.TheVariants as errors
@@ -24,8 +26,8 @@ use Rattle.script_lang.specs.Arguments.{Rest}
 use Rattle.script_lang.specs.declared.verbs.VerbName.{VerbName}
 use Rattle.script_lang.specs.Parts.{bind_at, binds_well, is_taken, served, empty_script}
 use Rattle.script_lang.specs.Reading.{spoken_of, line_read, step, at_line, read_lines, Parses}
-use Rattle.script_lang.specs.Causes.{IsRead, StopsAt, FirstBad, BreaksFirst, IsCause, Breaks, verb_words}
-use Rattle.script_lang.specs.Grammar.{verb_name, arguments, Fits, wording, bind_words, IsSpoken, IsBound, AddsCall, Adds, Spells, IsScript, rope_text, class_text, IsRope}
+use Rattle.script_lang.specs.Causes.{IsRead, StopsAt, FirstBad, BreaksFirst, IsCause, Breaks, before, verb_words}
+use Rattle.script_lang.specs.Grammar.{Every, verb_name, arguments, Fits, wording, bind_words, IsSpoken, IsBound, AddsCall, Adds, Spells, IsScript, rope_text, class_text, IsRope}
 use Rattle.script_lang.proofs.Digits.{decimal_first}
 use Rattle.script_lang.proofs.SaidLaws.{said_spelled}
 use Rattle.script_lang.proofs.Steps.{caller_again, name_again, same_verb, step_found, step_bad}
@@ -164,57 +166,45 @@ parsed_only known bytes (Ok r) e m h = done_is r m (sym e ∙ lines_again known 
 parsed_only known bytes (Err (errors.BadLine k cause)) e m h = not_both m k cause (sym e ∙ lines_again known (lines_of bytes) 1 empty_script m h)
 parsed_only known bytes (Err errors.NoMemory) e m h = tt
 
+-- the causes in their order
+abbrev in_order : List Cause
+in_order = causes.Lines ∷ causes.Bytes ∷ causes.Caller ∷ causes.Verb ∷ causes.Arguments ∷ causes.Bind ∷ causes.LaneTaken ∷ []
+
+abbrev rank : Cause → ℕ
+rank cause = length (before cause)
+
+-- each stands behind those before it
+is_ranked : (c : Cause) → (get_or in_order (rank c) causes.Lines ≡ c) × (before c ≡ take (rank c) in_order)
+is_ranked causes.Lines = (refl, refl)
+is_ranked causes.Bytes = (refl, refl)
+is_ranked causes.Caller = (refl, refl)
+is_ranked causes.Verb = (refl, refl)
+is_ranked causes.Arguments = (refl, refl)
+is_ranked causes.Bind = (refl, refl)
+is_ranked causes.LaneTaken = (refl, refl)
+
+every_at : (P : Cause → Type 0) (xs : List Cause) (k : ℕ) → k < length xs → Every P xs → P (get_or xs k causes.Lines)
+every_at P [] k lt h = absurd (omega (arith, lt))
+every_at P (x ∷ xs) zero lt h = h.0
+every_at P (x ∷ xs) (suc k) lt h = every_at P xs k (omega (arith, lt)) h.1
+
+-- what holds of all causes before another holds of each of lower rank
+is_before : (P : Cause → Type 0) (c d : Cause) → rank c < rank d → Every P (before d) → P c
+is_before P c d lt h =
+    let place : get_or (before d) (rank c) causes.Lines ≡ c = ap (λ (xs : List Cause). get_or xs (rank c) causes.Lines) (is_ranked d).1 ∙ get_or-take (rank d) in_order (rank c) causes.Lines lt ∙ (is_ranked c).0 in
+    subst P place (every_at P (before d) (rank c) lt h)
+
 -- a line is refused for its first cause
 one_cause : (known : Known) (n : ℕ) (r : Reading) (line : List ℕ) (c d : Cause) → IsCause known c n r line → IsCause known d n r line → c ≡ d
-one_cause known n r line causes.Lines causes.Lines p q = refl
-one_cause known n r line causes.Lines causes.Bytes p q = absurd (q.1.0 p.0)
-one_cause known n r line causes.Lines causes.Caller p q = absurd (q.1.0 p.0)
-one_cause known n r line causes.Lines causes.Verb p q = absurd (q.1.0 p.0)
-one_cause known n r line causes.Lines causes.Arguments p q = absurd (q.1.0 p.0)
-one_cause known n r line causes.Lines causes.Bind p q = absurd (q.1.0 p.0)
-one_cause known n r line causes.Lines causes.LaneTaken p q = absurd (q.1.0 p.0)
-one_cause known n r line causes.Bytes causes.Lines p q = absurd (p.1.0 q.0)
-one_cause known n r line causes.Bytes causes.Bytes p q = refl
-one_cause known n r line causes.Bytes causes.Caller p q = absurd (q.1.1.0 p.0)
-one_cause known n r line causes.Bytes causes.Verb p q = absurd (q.1.1.0 p.0)
-one_cause known n r line causes.Bytes causes.Arguments p q = absurd (q.1.1.0 p.0)
-one_cause known n r line causes.Bytes causes.Bind p q = absurd (q.1.1.0 p.0)
-one_cause known n r line causes.Bytes causes.LaneTaken p q = absurd (q.1.1.0 p.0)
-one_cause known n r line causes.Caller causes.Lines p q = absurd (p.1.0 q.0)
-one_cause known n r line causes.Caller causes.Bytes p q = absurd (p.1.1.0 q.0)
-one_cause known n r line causes.Caller causes.Caller p q = refl
-one_cause known n r line causes.Caller causes.Verb p q = absurd (q.1.1.1.0 p.0)
-one_cause known n r line causes.Caller causes.Arguments p q = absurd (q.1.1.1.0 p.0)
-one_cause known n r line causes.Caller causes.Bind p q = absurd (q.1.1.1.0 p.0)
-one_cause known n r line causes.Caller causes.LaneTaken p q = absurd (q.1.1.1.0 p.0)
-one_cause known n r line causes.Verb causes.Lines p q = absurd (p.1.0 q.0)
-one_cause known n r line causes.Verb causes.Bytes p q = absurd (p.1.1.0 q.0)
-one_cause known n r line causes.Verb causes.Caller p q = absurd (p.1.1.1.0 q.0)
-one_cause known n r line causes.Verb causes.Verb p q = refl
-one_cause known n r line causes.Verb causes.Arguments p q = absurd (q.1.1.1.1.0 p.0)
-one_cause known n r line causes.Verb causes.Bind p q = absurd (q.1.1.1.1.0 p.0)
-one_cause known n r line causes.Verb causes.LaneTaken p q = absurd (q.1.1.1.1.0 p.0)
-one_cause known n r line causes.Arguments causes.Lines p q = absurd (p.1.0 q.0)
-one_cause known n r line causes.Arguments causes.Bytes p q = absurd (p.1.1.0 q.0)
-one_cause known n r line causes.Arguments causes.Caller p q = absurd (p.1.1.1.0 q.0)
-one_cause known n r line causes.Arguments causes.Verb p q = absurd (p.1.1.1.1.0 q.0)
-one_cause known n r line causes.Arguments causes.Arguments p q = refl
-one_cause known n r line causes.Arguments causes.Bind p q = absurd (q.1.1.1.1.1.0 p.0)
-one_cause known n r line causes.Arguments causes.LaneTaken p q = absurd (q.1.1.1.1.1.0 p.0)
-one_cause known n r line causes.Bind causes.Lines p q = absurd (p.1.0 q.0)
-one_cause known n r line causes.Bind causes.Bytes p q = absurd (p.1.1.0 q.0)
-one_cause known n r line causes.Bind causes.Caller p q = absurd (p.1.1.1.0 q.0)
-one_cause known n r line causes.Bind causes.Verb p q = absurd (p.1.1.1.1.0 q.0)
-one_cause known n r line causes.Bind causes.Arguments p q = absurd (p.1.1.1.1.1.0 q.0)
-one_cause known n r line causes.Bind causes.Bind p q = refl
-one_cause known n r line causes.Bind causes.LaneTaken p q = absurd (q.1.1.1.1.1.1.0 p.0)
-one_cause known n r line causes.LaneTaken causes.Lines p q = absurd (p.1.0 q.0)
-one_cause known n r line causes.LaneTaken causes.Bytes p q = absurd (p.1.1.0 q.0)
-one_cause known n r line causes.LaneTaken causes.Caller p q = absurd (p.1.1.1.0 q.0)
-one_cause known n r line causes.LaneTaken causes.Verb p q = absurd (p.1.1.1.1.0 q.0)
-one_cause known n r line causes.LaneTaken causes.Arguments p q = absurd (p.1.1.1.1.1.0 q.0)
-one_cause known n r line causes.LaneTaken causes.Bind p q = absurd (p.1.1.1.1.1.1.0 q.0)
-one_cause known n r line causes.LaneTaken causes.LaneTaken p q = refl
+one_cause known n r line c d p q = by (cases_order (rank c) (rank d))
+  where
+    Is_not : Cause → Type 0
+    Is_not x = Breaks known x n r line → ⊥
+
+    by : (rank c ≡ rank d) ⊎ ((rank c < rank d) ⊎ (rank d < rank c)) → c ≡ d
+    by (inl same) = sym (is_ranked c).0 ∙ ap (λ (k : ℕ). get_or in_order k causes.Lines) same ∙ (is_ranked d).0
+    by (inr (inl lt)) = absurd (is_before Is_not c d lt q.1 p.0)
+    by (inr (inr lt)) = absurd (is_before Is_not d c lt p.1 q.0)
 
 abbrev Ok_is : Spoken → Result Spoken Cause
 Ok_is s = Ok s

@@ -1,6 +1,6 @@
 -- What a verb's words say, and how it is spelled.
 use Rattle.std.proofs.Common.{◌≡◌, ℕ, ◌^◌, ◌<◌, ◌≤◌, Bool, true, false, cond, ◌&&◌, List, [], ◌∷◌, ◌++◌, length, map, sym, refl, ap, ◌∙◌, arith, Option, Some, None, lit<, subst, leb, ltb, append-nil}
-use Rattle.std.specs.Prelude.{IsTrue}
+use Rattle.std.specs.Prelude.{IsTrue, option_and_then}
 use Rattle.std.specs.Fmt.{decimal}
 use Rattle.std.proofs.lemmas.Bool.Decides.{nat_tests}
 use Rattle.voice_model.specs.Text.{note_text}
@@ -29,9 +29,6 @@ pub record IsSaid (samples : List (List ℕ)) (name : VerbName) (said : Said) (w
   pub named : verb_name said.verb ≡ name
   pub spelled : words ≡ arguments said.verb said.file said.sample ++ rest
 
-carry : (samples : List (List ℕ)) (name : VerbName) (words : Rest) (s said : Said) (r rest : Rest) → read_as s r ≡ read_as said rest → IsSaid samples name s words r → IsSaid samples name said words rest
-carry samples name words s said r rest e h = let P : Said × Rest → Type 0 = λ p. IsSaid samples name p.0 words p.1 in subst P (some_is (s, r) (said, rest) e) h
-
 plain : (verb : Verb) (file sample : Option (List ℕ)) → file ≡ None → sample ≡ None → read_as (just verb) [] ≡ read_as (made verb file sample) []
 plain verb file sample p q = ap (λ f. Some (made verb f None, [])) (sym p) ∙ ap (λ s. Some (made verb file s, [])) (sym q)
 
@@ -51,226 +48,214 @@ le_from m n h = grind (arith, nat_tests)
 le_true : (m n : ℕ) → m ≤ n → leb m n ≡ true
 le_true m n h = grind (arith, nat_tests)
 
-found_record : (samples : List (List ℕ)) (words rest : Rest) (said : Said) → record_at samples words ≡ Some (said, rest) → IsSaid samples names.Record said words rest
+-- what a reading of words says, if it says anything
+abbrev Tells : List (List ℕ) → VerbName → Rest → Option (Said × Rest) → Type 0
+Tells samples name words o = (rest : Rest) (said : Said) → o ≡ Some (said, rest) → IsSaid samples name said words rest
+
+-- all arguments were read
+tells : {samples : List (List ℕ)} {name : VerbName} {words : Rest} (s : Said) (r : Rest) → Fits samples s.verb s.file s.sample → verb_name s.verb ≡ name → words ≡ arguments s.verb s.file s.sample ++ r → Tells samples name words (Some (s, r))
+tells {samples} {name} {words} s r fits named spelled rest said e =
+    let P : Said × Rest → Type 0 = λ p. IsSaid samples name p.0 words p.1 in
+    subst P (some_is (s, r) (said, rest) e) (record { fits = fits; named = named; spelled = spelled })
+
+-- how an argument is read, and how it is spelled
+record Argument (A : Type 0) : Type 1 where
+  at : Rest → Option (A × Rest)
+  text : A → List ℕ
+  Is : A → Type 0
+  found : (words rest : Rest) (x : A) → at words ≡ Some (x, rest) → (words ≡ text x ∷ rest) × Is x
+
+abbrev a_rope : Argument RopeArg
+a_rope = record { at = rope_at; text = rope_text; Is = IsRope; found = rope_found }
+
+abbrev a_number : (most : ℕ) → most < 10 ^ 15 → Argument ℕ
+a_number most small = record { at = number_at most; text = decimal; Is = λ n. n ≤ most; found = λ words rest n e. number_found most n words rest small e }
+
+abbrev a_file : Argument (List ℕ)
+a_file = record { at = file_at; text = λ file. file; Is = λ file. IsTrue (is_file file); found = file_found }
+
+abbrev a_key : Argument (List ℕ)
+a_key = record { at = key_at; text = λ key. key; Is = λ key. IsTrue (is_key key); found = key_found }
+
+abbrev a_class : Argument Class
+a_class = record { at = class_at; text = class_text; Is = λ class. Unit {0}; found = λ words rest class e. (class_found words rest class e, tt) }
+
+abbrev a_note : Argument (List ℕ)
+a_note = record { at = note_at; text = note_text; Is = IsNote; found = note_found }
+
+-- one argument more is read, behind those in front
+and_then : {samples : List (List ℕ)} {name : VerbName} {A : Type 0} (a : Argument A) (front : Rest → Rest) (words : Rest) (k : A × Rest → Option (Said × Rest)) →
+    ((x : A) (r : Rest) → a.Is x → Tells samples name (front (a.text x ∷ r)) (k (x, r))) → Tells samples name (front words) (option_and_then k (a.at words))
+and_then {samples} {name} a front words k more rest said e =
+    let b = bind_ok (a.at words) k (said, rest) e in
+    let p = a.found words b.0.1 b.0.0 b.1 in
+    subst (λ (ws : Rest). IsSaid samples name said (front ws) rest) (sym p.0) (more b.0.0 b.0.1 p.1 rest said b.2)
+
+found_record : (samples : List (List ℕ)) (words : Rest) → Tells samples names.Record words (record_at samples words)
 unfolding record_at
-found_record samples words rest said e =
-    let a0 = bind_ok (file_at words) _ (said, rest) e in
-    let p0 = file_found words a0.0.1 a0.0.0 a0.1 in
-    let spelled : words ≡ a0.0.0 ∷ a0.0.1 = p0.0 in
-    carry samples names.Record words (made (verbs.Record (tape_of samples a0.0.0)) None (Some a0.0.0)) said a0.0.1 rest a0.2 (record { fits = (refl, (p0.1, refl)); named = refl; spelled = spelled })
+found_record samples words =
+    and_then a_file (λ t. t) words _ (λ file r0 p0.
+    tells (made (verbs.Record (tape_of samples file)) None (Some file)) r0 (refl, (p0, refl)) refl refl)
 
-found_sub : (samples : List (List ℕ)) (words rest : Rest) (said : Said) → sub_at words ≡ Some (said, rest) → IsSaid samples names.Sub said words rest
+found_sub : (samples : List (List ℕ)) (words : Rest) → Tells samples names.Sub words (sub_at words)
 unfolding sub_at
-found_sub samples words rest said e =
-    let a0 = bind_ok (rope_at words) _ (said, rest) e in
-    let p0 = rope_found words a0.0.1 a0.0.0 a0.1 in
-    let a1 = bind_ok (number_at 4294967295 a0.0.1) _ (said, rest) a0.2 in
-    let p1 = number_found 4294967295 a1.0.0 a0.0.1 a1.0.1 (lit< tt) a1.1 in
-    let a2 = bind_ok (number_at 4294967295 a1.0.1) _ (said, rest) a1.2 in
-    let p2 = number_found 4294967295 a2.0.0 a1.0.1 a2.0.1 (lit< tt) a2.1 in
-    let spelled : words ≡ rope_text a0.0.0 ∷ decimal a1.0.0 ∷ decimal a2.0.0 ∷ a2.0.1 = p0.0 ∙ ap (λ t. rope_text a0.0.0 ∷ t) p1.0 ∙ ap (λ t. rope_text a0.0.0 ∷ decimal a1.0.0 ∷ t) p2.0 in
-    carry samples names.Sub words (just (verbs.Sub a0.0.0 a1.0.0 a2.0.0)) said a2.0.1 rest a2.2 (record { fits = (refl, refl, p0.1, p1.1, p2.1); named = refl; spelled = spelled })
+found_sub samples words =
+    and_then a_rope (λ t. t) words _ (λ rope r0 p0.
+    and_then (a_number 4294967295 (lit< tt)) (λ t. rope_text rope ∷ t) r0 _ (λ start r1 p1.
+    and_then (a_number 4294967295 (lit< tt)) (λ t. rope_text rope ∷ decimal start ∷ t) r1 _ (λ len r2 p2.
+    tells (just (verbs.Sub rope start len)) r2 (refl, refl, p0, p1, p2) refl refl)))
 
-found_replace : (samples : List (List ℕ)) (words rest : Rest) (said : Said) → replace_at words ≡ Some (said, rest) → IsSaid samples names.Replace said words rest
+found_replace : (samples : List (List ℕ)) (words : Rest) → Tells samples names.Replace words (replace_at words)
 unfolding replace_at
-found_replace samples words rest said e =
-    let a0 = bind_ok (rope_at words) _ (said, rest) e in
-    let p0 = rope_found words a0.0.1 a0.0.0 a0.1 in
-    let a1 = bind_ok (number_at 4294967295 a0.0.1) _ (said, rest) a0.2 in
-    let p1 = number_found 4294967295 a1.0.0 a0.0.1 a1.0.1 (lit< tt) a1.1 in
-    let a2 = bind_ok (number_at 4294967295 a1.0.1) _ (said, rest) a1.2 in
-    let p2 = number_found 4294967295 a2.0.0 a1.0.1 a2.0.1 (lit< tt) a2.1 in
-    let a3 = bind_ok (rope_at a2.0.1) _ (said, rest) a2.2 in
-    let p3 = rope_found a2.0.1 a3.0.1 a3.0.0 a3.1 in
-    let spelled : words ≡ rope_text a0.0.0 ∷ decimal a1.0.0 ∷ decimal a2.0.0 ∷ rope_text a3.0.0 ∷ a3.0.1 = p0.0 ∙ ap (λ t. rope_text a0.0.0 ∷ t) p1.0 ∙ ap (λ t. rope_text a0.0.0 ∷ decimal a1.0.0 ∷ t) p2.0 ∙ ap (λ t. rope_text a0.0.0 ∷ decimal a1.0.0 ∷ decimal a2.0.0 ∷ t) p3.0 in
-    carry samples names.Replace words (just (verbs.Replace a0.0.0 a1.0.0 a2.0.0 a3.0.0)) said a3.0.1 rest a3.2 (record { fits = (refl, refl, p0.1, p1.1, p2.1, p3.1); named = refl; spelled = spelled })
+found_replace samples words =
+    and_then a_rope (λ t. t) words _ (λ rope r0 p0.
+    and_then (a_number 4294967295 (lit< tt)) (λ t. rope_text rope ∷ t) r0 _ (λ start r1 p1.
+    and_then (a_number 4294967295 (lit< tt)) (λ t. rope_text rope ∷ decimal start ∷ t) r1 _ (λ len r2 p2.
+    and_then a_rope (λ t. rope_text rope ∷ decimal start ∷ decimal len ∷ t) r2 _ (λ other r3 p3.
+    tells (just (verbs.Replace rope start len other)) r3 (refl, refl, p0, p1, p2, p3) refl refl))))
 
-found_length : (samples : List (List ℕ)) (words rest : Rest) (said : Said) → length_at words ≡ Some (said, rest) → IsSaid samples names.Length said words rest
+found_length : (samples : List (List ℕ)) (words : Rest) → Tells samples names.Length words (length_at words)
 unfolding length_at
-found_length samples words rest said e =
-    let a0 = bind_ok (rope_at words) _ (said, rest) e in
-    let p0 = rope_found words a0.0.1 a0.0.0 a0.1 in
-    let spelled : words ≡ rope_text a0.0.0 ∷ a0.0.1 = p0.0 in
-    carry samples names.Length words (just (verbs.Length a0.0.0)) said a0.0.1 rest a0.2 (record { fits = (refl, refl, p0.1); named = refl; spelled = spelled })
+found_length samples words =
+    and_then a_rope (λ t. t) words _ (λ rope r0 p0.
+    tells (just (verbs.Length rope)) r0 (refl, refl, p0) refl refl)
 
-found_retain : (samples : List (List ℕ)) (words rest : Rest) (said : Said) → retain_at words ≡ Some (said, rest) → IsSaid samples names.Retain said words rest
+found_retain : (samples : List (List ℕ)) (words : Rest) → Tells samples names.Retain words (retain_at words)
 unfolding retain_at
-found_retain samples words rest said e =
-    let a0 = bind_ok (class_at words) _ (said, rest) e in
-    let p0 = class_found words a0.0.1 a0.0.0 a0.1 in
-    let a1 = bind_ok (key_at a0.0.1) _ (said, rest) a0.2 in
-    let p1 = key_found a0.0.1 a1.0.1 a1.0.0 a1.1 in
-    let a2 = bind_ok (rope_at a1.0.1) _ (said, rest) a1.2 in
-    let p2 = rope_found a1.0.1 a2.0.1 a2.0.0 a2.1 in
-    let a3 = bind_ok (note_at a2.0.1) _ (said, rest) a2.2 in
-    let p3 = note_found a2.0.1 a3.0.1 a3.0.0 a3.1 in
-    let spelled : words ≡ class_text a0.0.0 ∷ a1.0.0 ∷ rope_text a2.0.0 ∷ note_text a3.0.0 ∷ a3.0.1 = p0 ∙ ap (λ t. class_text a0.0.0 ∷ t) p1.0 ∙ ap (λ t. class_text a0.0.0 ∷ a1.0.0 ∷ t) p2.0 ∙ ap (λ t. class_text a0.0.0 ∷ a1.0.0 ∷ rope_text a2.0.0 ∷ t) p3.0 in
-    carry samples names.Retain words (just (verbs.Retain a0.0.0 a1.0.0 a2.0.0 a3.0.0)) said a3.0.1 rest a3.2 (record { fits = (refl, refl, p1.1, p2.1, p3.1); named = refl; spelled = spelled })
+found_retain samples words =
+    and_then a_class (λ t. t) words _ (λ class r0 p0.
+    and_then a_key (λ t. class_text class ∷ t) r0 _ (λ key r1 p1.
+    and_then a_rope (λ t. class_text class ∷ key ∷ t) r1 _ (λ rope r2 p2.
+    and_then a_note (λ t. class_text class ∷ key ∷ rope_text rope ∷ t) r2 _ (λ note r3 p3.
+    tells (just (verbs.Retain class key rope note)) r3 (refl, refl, p1, p2, p3) refl refl))))
 
-found_forget : (samples : List (List ℕ)) (words rest : Rest) (said : Said) → forget_at words ≡ Some (said, rest) → IsSaid samples names.Forget said words rest
+found_forget : (samples : List (List ℕ)) (words : Rest) → Tells samples names.Forget words (forget_at words)
 unfolding forget_at
-found_forget samples words rest said e =
-    let a0 = bind_ok (class_at words) _ (said, rest) e in
-    let p0 = class_found words a0.0.1 a0.0.0 a0.1 in
-    let a1 = bind_ok (key_at a0.0.1) _ (said, rest) a0.2 in
-    let p1 = key_found a0.0.1 a1.0.1 a1.0.0 a1.1 in
-    let spelled : words ≡ class_text a0.0.0 ∷ a1.0.0 ∷ a1.0.1 = p0 ∙ ap (λ t. class_text a0.0.0 ∷ t) p1.0 in
-    carry samples names.Forget words (just (verbs.Forget a0.0.0 a1.0.0)) said a1.0.1 rest a1.2 (record { fits = (refl, refl, p1.1); named = refl; spelled = spelled })
+found_forget samples words =
+    and_then a_class (λ t. t) words _ (λ class r0 p0.
+    and_then a_key (λ t. class_text class ∷ t) r0 _ (λ key r1 p1.
+    tells (just (verbs.Forget class key)) r1 (refl, refl, p1) refl refl))
 
-found_lookup : (samples : List (List ℕ)) (words rest : Rest) (said : Said) → lookup_at words ≡ Some (said, rest) → IsSaid samples names.Lookup said words rest
+found_lookup : (samples : List (List ℕ)) (words : Rest) → Tells samples names.Lookup words (lookup_at words)
 unfolding lookup_at
-found_lookup samples words rest said e =
-    let a0 = bind_ok (class_at words) _ (said, rest) e in
-    let p0 = class_found words a0.0.1 a0.0.0 a0.1 in
-    let a1 = bind_ok (key_at a0.0.1) _ (said, rest) a0.2 in
-    let p1 = key_found a0.0.1 a1.0.1 a1.0.0 a1.1 in
-    let spelled : words ≡ class_text a0.0.0 ∷ a1.0.0 ∷ a1.0.1 = p0 ∙ ap (λ t. class_text a0.0.0 ∷ t) p1.0 in
-    carry samples names.Lookup words (just (verbs.Lookup a0.0.0 a1.0.0)) said a1.0.1 rest a1.2 (record { fits = (refl, refl, p1.1); named = refl; spelled = spelled })
+found_lookup samples words =
+    and_then a_class (λ t. t) words _ (λ class r0 p0.
+    and_then a_key (λ t. class_text class ∷ t) r0 _ (λ key r1 p1.
+    tells (just (verbs.Lookup class key)) r1 (refl, refl, p1) refl refl))
 
-found_advance : (samples : List (List ℕ)) (words rest : Rest) (said : Said) → advance_at words ≡ Some (said, rest) → IsSaid samples names.Advance said words rest
+found_advance : (samples : List (List ℕ)) (words : Rest) → Tells samples names.Advance words (advance_at words)
 unfolding advance_at
-found_advance samples words rest said e =
-    let a0 = bind_ok (number_at (2 ^ 40) words) _ (said, rest) e in
-    let p0 = number_found (2 ^ 40) a0.0.0 words a0.0.1 (lit< tt) a0.1 in
-    let spelled : words ≡ decimal a0.0.0 ∷ a0.0.1 = p0.0 in
-    carry samples names.Advance words (just (verbs.Advance a0.0.0)) said a0.0.1 rest a0.2 (record { fits = (refl, refl, p0.1); named = refl; spelled = spelled })
+found_advance samples words =
+    and_then (a_number (2 ^ 40) (lit< tt)) (λ t. t) words _ (λ moment r0 p0.
+    tells (just (verbs.Advance moment)) r0 (refl, refl, p0) refl refl)
 
-found_sweep : (samples : List (List ℕ)) (words rest : Rest) (said : Said) → sweep_at words ≡ Some (said, rest) → IsSaid samples names.Sweep said words rest
+found_sweep : (samples : List (List ℕ)) (words : Rest) → Tells samples names.Sweep words (sweep_at words)
 unfolding sweep_at
-found_sweep samples words rest said e =
-    let a0 = bind_ok (number_at 65535 words) _ (said, rest) e in
-    let p0 = number_found 65535 a0.0.0 words a0.0.1 (lit< tt) a0.1 in
-    let spelled : words ≡ decimal a0.0.0 ∷ a0.0.1 = p0.0 in
-    carry samples names.Sweep words (just (verbs.Sweep a0.0.0)) said a0.0.1 rest a0.2 (record { fits = (refl, refl, p0.1); named = refl; spelled = spelled })
+found_sweep samples words =
+    and_then (a_number 65535 (lit< tt)) (λ t. t) words _ (λ limit r0 p0.
+    tells (just (verbs.Sweep limit)) r0 (refl, refl, p0) refl refl)
 
-found_describe : (samples : List (List ℕ)) (words rest : Rest) (said : Said) → describe_at words ≡ Some (said, rest) → IsSaid samples names.Describe said words rest
+found_describe : (samples : List (List ℕ)) (words : Rest) → Tells samples names.Describe words (describe_at words)
 unfolding describe_at
-found_describe samples words rest said e =
-    let a0 = bind_ok (rope_at words) _ (said, rest) e in
-    let p0 = rope_found words a0.0.1 a0.0.0 a0.1 in
-    let spelled : words ≡ rope_text a0.0.0 ∷ a0.0.1 = p0.0 in
-    carry samples names.Describe words (just (verbs.Describe a0.0.0)) said a0.0.1 rest a0.2 (record { fits = (refl, refl, p0.1); named = refl; spelled = spelled })
+found_describe samples words =
+    and_then a_rope (λ t. t) words _ (λ rope r0 p0.
+    tells (just (verbs.Describe rope)) r0 (refl, refl, p0) refl refl)
 
-found_queue : (samples : List (List ℕ)) (words rest : Rest) (said : Said) → queue_at words ≡ Some (said, rest) → IsSaid samples names.Queue said words rest
+found_queue : (samples : List (List ℕ)) (words : Rest) → Tells samples names.Queue words (queue_at words)
 unfolding queue_at
-found_queue samples words rest said e =
-    let a0 = bind_ok (number_at 15 words) _ (said, rest) e in
-    let p0 = number_found 15 a0.0.0 words a0.0.1 (lit< tt) a0.1 in
-    let a1 = bind_ok (rope_at a0.0.1) _ (said, rest) a0.2 in
-    let p1 = rope_found a0.0.1 a1.0.1 a1.0.0 a1.1 in
-    let a2 = bind_ok (number_at 4294967295 a1.0.1) _ (said, rest) a1.2 in
-    let p2 = number_found 4294967295 a2.0.0 a1.0.1 a2.0.1 (lit< tt) a2.1 in
-    let a3 = bind_ok (number_at 4294967295 a2.0.1) _ (said, rest) a2.2 in
-    let p3 = number_found 4294967295 a3.0.0 a2.0.1 a3.0.1 (lit< tt) a3.1 in
-    let spelled : words ≡ decimal a0.0.0 ∷ rope_text a1.0.0 ∷ decimal a2.0.0 ∷ decimal a3.0.0 ∷ a3.0.1 = p0.0 ∙ ap (λ t. decimal a0.0.0 ∷ t) p1.0 ∙ ap (λ t. decimal a0.0.0 ∷ rope_text a1.0.0 ∷ t) p2.0 ∙ ap (λ t. decimal a0.0.0 ∷ rope_text a1.0.0 ∷ decimal a2.0.0 ∷ t) p3.0 in
-    carry samples names.Queue words (just (verbs.Queue a0.0.0 a1.0.0 a2.0.0 a3.0.0)) said a3.0.1 rest a3.2 (record { fits = (refl, refl, p0.1, p1.1, p2.1, p3.1); named = refl; spelled = spelled })
+found_queue samples words =
+    and_then (a_number 15 (lit< tt)) (λ t. t) words _ (λ lane r0 p0.
+    and_then a_rope (λ t. decimal lane ∷ t) r0 _ (λ rope r1 p1.
+    and_then (a_number 4294967295 (lit< tt)) (λ t. decimal lane ∷ rope_text rope ∷ t) r1 _ (λ start r2 p2.
+    and_then (a_number 4294967295 (lit< tt)) (λ t. decimal lane ∷ rope_text rope ∷ decimal start ∷ t) r2 _ (λ len r3 p3.
+    tells (just (verbs.Queue lane rope start len)) r3 (refl, refl, p0, p1, p2, p3) refl refl))))
 
-found_play : (samples : List (List ℕ)) (words rest : Rest) (said : Said) → play_at words ≡ Some (said, rest) → IsSaid samples names.Play said words rest
+found_play : (samples : List (List ℕ)) (words : Rest) → Tells samples names.Play words (play_at words)
 unfolding play_at
-found_play samples words rest said e =
-    let a0 = bind_ok (number_at 15 words) _ (said, rest) e in
-    let p0 = number_found 15 a0.0.0 words a0.0.1 (lit< tt) a0.1 in
-    let a1 = bind_ok (rope_at a0.0.1) _ (said, rest) a0.2 in
-    let p1 = rope_found a0.0.1 a1.0.1 a1.0.0 a1.1 in
-    let a2 = bind_ok (number_at 4294967295 a1.0.1) _ (said, rest) a1.2 in
-    let p2 = number_found 4294967295 a2.0.0 a1.0.1 a2.0.1 (lit< tt) a2.1 in
-    let a3 = bind_ok (number_at 4294967295 a2.0.1) _ (said, rest) a2.2 in
-    let p3 = number_found 4294967295 a3.0.0 a2.0.1 a3.0.1 (lit< tt) a3.1 in
-    let a4 = bind_ok (file_at a3.0.1) _ (said, rest) a3.2 in
-    let p4 = file_found a3.0.1 a4.0.1 a4.0.0 a4.1 in
-    let spelled : words ≡ decimal a0.0.0 ∷ rope_text a1.0.0 ∷ decimal a2.0.0 ∷ decimal a3.0.0 ∷ a4.0.0 ∷ a4.0.1 = p0.0 ∙ ap (λ t. decimal a0.0.0 ∷ t) p1.0 ∙ ap (λ t. decimal a0.0.0 ∷ rope_text a1.0.0 ∷ t) p2.0 ∙ ap (λ t. decimal a0.0.0 ∷ rope_text a1.0.0 ∷ decimal a2.0.0 ∷ t) p3.0 ∙ ap (λ t. decimal a0.0.0 ∷ rope_text a1.0.0 ∷ decimal a2.0.0 ∷ decimal a3.0.0 ∷ t) p4.0 in
-    carry samples names.Play words (made (verbs.Play a0.0.0 a1.0.0 a2.0.0 a3.0.0) (Some a4.0.0) None) said a4.0.1 rest a4.2 (record { fits = (p4.1, refl, p0.1, p1.1, p2.1, p3.1); named = refl; spelled = spelled })
+found_play samples words =
+    and_then (a_number 15 (lit< tt)) (λ t. t) words _ (λ lane r0 p0.
+    and_then a_rope (λ t. decimal lane ∷ t) r0 _ (λ rope r1 p1.
+    and_then (a_number 4294967295 (lit< tt)) (λ t. decimal lane ∷ rope_text rope ∷ t) r1 _ (λ start r2 p2.
+    and_then (a_number 4294967295 (lit< tt)) (λ t. decimal lane ∷ rope_text rope ∷ decimal start ∷ t) r2 _ (λ len r3 p3.
+    and_then a_file (λ t. decimal lane ∷ rope_text rope ∷ decimal start ∷ decimal len ∷ t) r3 _ (λ file r4 p4.
+    tells (made (verbs.Play lane rope start len) (Some file) None) r4 (p4, refl, p0, p1, p2, p3) refl refl)))))
 
-found_serve : (samples : List (List ℕ)) (words rest : Rest) (said : Said) → serve_at words ≡ Some (said, rest) → IsSaid samples names.Serve said words rest
+found_serve : (samples : List (List ℕ)) (words : Rest) → Tells samples names.Serve words (serve_at words)
 unfolding serve_at
-found_serve samples words rest said e =
-    let a0 = bind_ok (number_at 15 words) _ (said, rest) e in
-    let p0 = number_found 15 a0.0.0 words a0.0.1 (lit< tt) a0.1 in
-    let a1 = bind_ok (file_at a0.0.1) _ (said, rest) a0.2 in
-    let p1 = file_found a0.0.1 a1.0.1 a1.0.0 a1.1 in
-    let spelled : words ≡ decimal a0.0.0 ∷ a1.0.0 ∷ a1.0.1 = p0.0 ∙ ap (λ t. decimal a0.0.0 ∷ t) p1.0 in
-    carry samples names.Serve words (made (verbs.Serve a0.0.0) (Some a1.0.0) None) said a1.0.1 rest a1.2 (record { fits = (p1.1, refl, p0.1); named = refl; spelled = spelled })
+found_serve samples words =
+    and_then (a_number 15 (lit< tt)) (λ t. t) words _ (λ lane r0 p0.
+    and_then a_file (λ t. decimal lane ∷ t) r0 _ (λ file r1 p1.
+    tells (made (verbs.Serve lane) (Some file) None) r1 (p1, refl, p0) refl refl))
 
-found_stop : (samples : List (List ℕ)) (words rest : Rest) (said : Said) → stop_at words ≡ Some (said, rest) → IsSaid samples names.Stop said words rest
+found_stop : (samples : List (List ℕ)) (words : Rest) → Tells samples names.Stop words (stop_at words)
 unfolding stop_at
-found_stop samples words rest said e =
-    let a0 = bind_ok (number_at 15 words) _ (said, rest) e in
-    let p0 = number_found 15 a0.0.0 words a0.0.1 (lit< tt) a0.1 in
-    let spelled : words ≡ decimal a0.0.0 ∷ a0.0.1 = p0.0 in
-    carry samples names.Stop words (just (verbs.Stop a0.0.0)) said a0.0.1 rest a0.2 (record { fits = (refl, refl, p0.1); named = refl; spelled = spelled })
+found_stop samples words =
+    and_then (a_number 15 (lit< tt)) (λ t. t) words _ (λ lane r0 p0.
+    tells (just (verbs.Stop lane)) r0 (refl, refl, p0) refl refl)
 
-found_begin : (samples : List (List ℕ)) (words rest : Rest) (said : Said) → begin_at words ≡ Some (said, rest) → IsSaid samples names.Begin said words rest
+found_begin : (samples : List (List ℕ)) (words : Rest) → Tells samples names.Begin words (begin_at words)
 unfolding begin_at
-found_begin samples words rest said e =
-    let a0 = bind_ok (number_at 15 words) _ (said, rest) e in
-    let p0 = number_found 15 a0.0.0 words a0.0.1 (lit< tt) a0.1 in
-    let spelled : words ≡ decimal a0.0.0 ∷ a0.0.1 = p0.0 in
-    carry samples names.Begin words (just (verbs.Begin a0.0.0)) said a0.0.1 rest a0.2 (record { fits = (refl, refl, p0.1); named = refl; spelled = spelled })
+found_begin samples words =
+    and_then (a_number 15 (lit< tt)) (λ t. t) words _ (λ lane r0 p0.
+    tells (just (verbs.Begin lane)) r0 (refl, refl, p0) refl refl)
 
-found_add : (samples : List (List ℕ)) (words rest : Rest) (said : Said) → add_at samples words ≡ Some (said, rest) → IsSaid samples names.Add said words rest
+found_add : (samples : List (List ℕ)) (words : Rest) → Tells samples names.Add words (add_at samples words)
 unfolding add_at
-found_add samples words rest said e =
-    let a0 = bind_ok (number_at 15 words) _ (said, rest) e in
-    let p0 = number_found 15 a0.0.0 words a0.0.1 (lit< tt) a0.1 in
-    let a1 = bind_ok (file_at a0.0.1) _ (said, rest) a0.2 in
-    let p1 = file_found a0.0.1 a1.0.1 a1.0.0 a1.1 in
-    let spelled : words ≡ decimal a0.0.0 ∷ a1.0.0 ∷ a1.0.1 = p0.0 ∙ ap (λ t. decimal a0.0.0 ∷ t) p1.0 in
-    carry samples names.Add words (made (verbs.Add a0.0.0 (tape_of samples a1.0.0)) None (Some a1.0.0)) said a1.0.1 rest a1.2 (record { fits = (refl, (p1.1, refl), p0.1); named = refl; spelled = spelled })
+found_add samples words =
+    and_then (a_number 15 (lit< tt)) (λ t. t) words _ (λ lane r0 p0.
+    and_then a_file (λ t. decimal lane ∷ t) r0 _ (λ file r1 p1.
+    tells (made (verbs.Add lane (tape_of samples file)) None (Some file)) r1 (refl, (p1, refl), p0) refl refl))
 
-found_end : (samples : List (List ℕ)) (words rest : Rest) (said : Said) → end_at words ≡ Some (said, rest) → IsSaid samples names.End said words rest
+found_end : (samples : List (List ℕ)) (words : Rest) → Tells samples names.End words (end_at words)
 unfolding end_at
-found_end samples words rest said e =
-    let a0 = bind_ok (number_at 15 words) _ (said, rest) e in
-    let p0 = number_found 15 a0.0.0 words a0.0.1 (lit< tt) a0.1 in
-    let spelled : words ≡ decimal a0.0.0 ∷ a0.0.1 = p0.0 in
-    carry samples names.End words (just (verbs.End a0.0.0)) said a0.0.1 rest a0.2 (record { fits = (refl, refl, p0.1); named = refl; spelled = spelled })
+found_end samples words =
+    and_then (a_number 15 (lit< tt)) (λ t. t) words _ (λ lane r0 p0.
+    tells (just (verbs.End lane)) r0 (refl, refl, p0) refl refl)
 
-found_levels : (samples : List (List ℕ)) (words rest : Rest) (said : Said) → levels_at words ≡ Some (said, rest) → IsSaid samples names.Levels said words rest
+found_levels : (samples : List (List ℕ)) (words : Rest) → Tells samples names.Levels words (levels_at words)
 unfolding levels_at
-found_levels samples words rest said e =
-    let a0 = bind_ok (rope_at words) _ (said, rest) e in
-    let p0 = rope_found words a0.0.1 a0.0.0 a0.1 in
-    let spelled : words ≡ rope_text a0.0.0 ∷ a0.0.1 = p0.0 in
-    carry samples names.Levels words (just (verbs.Levels a0.0.0)) said a0.0.1 rest a0.2 (record { fits = (refl, refl, p0.1); named = refl; spelled = spelled })
+found_levels samples words =
+    and_then a_rope (λ t. t) words _ (λ rope r0 p0.
+    tells (just (verbs.Levels rope)) r0 (refl, refl, p0) refl refl)
 
-found_concat : (samples : List (List ℕ)) (words rest : Rest) (said : Said) → concat_at words ≡ Some (said, rest) → IsSaid samples names.Concat said words rest
+found_concat : (samples : List (List ℕ)) (words : Rest) → Tells samples names.Concat words (concat_at words)
 unfolding concat_at
 found_concat samples words rest said e =
     let a = bind_ok (ropes_of words) _ (said, rest) e in
     let p = ropes_found words a.0 a.1 in
     let t = tested (ltb 0 (length a.0) && leb (length a.0) 16) (just (verbs.Concat a.0), []) (said, rest) a.2 in
     let b = few (length a.0) t.0 in
-    carry samples names.Concat words (just (verbs.Concat a.0)) said [] rest (ap Some t.1) (record { fits = (refl, refl, b.0, b.1, p.1); named = refl; spelled = p.0 ∙ sym (append-nil (map rope_text a.0)) })
+    tells (just (verbs.Concat a.0)) [] (refl, refl, b.0, b.1, p.1) refl (p.0 ∙ sym (append-nil (map rope_text a.0))) rest said (ap Some t.1)
 
-found_census : (samples : List (List ℕ)) (words rest : Rest) (said : Said) → census_at words ≡ Some (said, rest) → IsSaid samples names.Census said words rest
+found_census : (samples : List (List ℕ)) (words : Rest) → Tells samples names.Census words (census_at words)
 unfolding census_at
 found_census samples words rest said e =
     let a = bind_ok (keys_of words) _ (said, rest) e in
     let p = keys_found words a.0 a.1 in
     let t = tested (leb (length a.0) 1024) (just (verbs.Census a.0), []) (said, rest) a.2 in
-    carry samples names.Census words (just (verbs.Census a.0)) said [] rest (ap Some t.1) (record { fits = (refl, refl, le_from (length a.0) 1024 t.0, p.1); named = refl; spelled = p.0 ∙ sym (append-nil a.0) })
+    tells (just (verbs.Census a.0)) [] (refl, refl, le_from (length a.0) 1024 t.0, p.1) refl (p.0 ∙ sym (append-nil a.0)) rest said (ap Some t.1)
 
-found_verb : (samples : List (List ℕ)) (name : VerbName) (words rest : Rest) (said : Said) → verb_at samples name words ≡ Some (said, rest) → IsSaid samples name said words rest
-found_verb samples names.Record words rest said e = found_record samples words rest said e
-found_verb samples names.Concat words rest said e = found_concat samples words rest said e
-found_verb samples names.Sub words rest said e = found_sub samples words rest said e
-found_verb samples names.Replace words rest said e = found_replace samples words rest said e
-found_verb samples names.Length words rest said e = found_length samples words rest said e
-found_verb samples names.Retain words rest said e = found_retain samples words rest said e
-found_verb samples names.Forget words rest said e = found_forget samples words rest said e
-found_verb samples names.Lookup words rest said e = found_lookup samples words rest said e
-found_verb samples names.Census words rest said e = found_census samples words rest said e
-found_verb samples names.Advance words rest said e = found_advance samples words rest said e
-found_verb samples names.Sweep words rest said e = found_sweep samples words rest said e
-found_verb samples names.Describe words rest said e = found_describe samples words rest said e
-found_verb samples names.Queue words rest said e = found_queue samples words rest said e
-found_verb samples names.Play words rest said e = found_play samples words rest said e
-found_verb samples names.Serve words rest said e = found_serve samples words rest said e
-found_verb samples names.Stop words rest said e = found_stop samples words rest said e
-found_verb samples names.Begin words rest said e = found_begin samples words rest said e
-found_verb samples names.Add words rest said e = found_add samples words rest said e
-found_verb samples names.End words rest said e = found_end samples words rest said e
-found_verb samples names.Levels words rest said e = found_levels samples words rest said e
+found_verb : (samples : List (List ℕ)) (name : VerbName) (words : Rest) → Tells samples name words (verb_at samples name words)
+found_verb samples names.Record words = found_record samples words
+found_verb samples names.Concat words = found_concat samples words
+found_verb samples names.Sub words = found_sub samples words
+found_verb samples names.Replace words = found_replace samples words
+found_verb samples names.Length words = found_length samples words
+found_verb samples names.Retain words = found_retain samples words
+found_verb samples names.Forget words = found_forget samples words
+found_verb samples names.Lookup words = found_lookup samples words
+found_verb samples names.Census words = found_census samples words
+found_verb samples names.Advance words = found_advance samples words
+found_verb samples names.Sweep words = found_sweep samples words
+found_verb samples names.Describe words = found_describe samples words
+found_verb samples names.Queue words = found_queue samples words
+found_verb samples names.Play words = found_play samples words
+found_verb samples names.Serve words = found_serve samples words
+found_verb samples names.Stop words = found_stop samples words
+found_verb samples names.Begin words = found_begin samples words
+found_verb samples names.Add words = found_add samples words
+found_verb samples names.End words = found_end samples words
+found_verb samples names.Levels words = found_levels samples words
 
 again_record : (samples : List (List ℕ)) (file : List ℕ) → IsTrue (is_file file) → record_at samples (file ∷ []) ≡ Some (made (verbs.Record (tape_of samples file)) None (Some file), [])
 unfolding record_at

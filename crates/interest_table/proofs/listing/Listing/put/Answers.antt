@@ -1,5 +1,4 @@
 use Rattle.std.proofs.Common.{◌≡◌, ◌∙◌, ◌+◌, ◌++◌, ◌∷◌, [], ap, map, refl, arith}
-use Rattle.std.specs.Prelude.{nat_eq}
 use Rattle.voice_model.specs.State.{row_at}
 use Rattle.interest_table.specs.Inside.{row_of, row_in, entry_of, stamp_of, IsListing}
 use Rattle.interest_table.proofs.Listed.{list_longer, no_stamp, next_unused}

@@ -1,19 +1,15 @@
-use Rattle.std.proofs.Common.{◌≡◌, ◌∙◌, ◌<◌, ℕ, ap, sym, refl, subst, cond, length, Some, None}
+use Rattle.std.proofs.Common.{◌≡◌, ◌∙◌, ◌<◌, ℕ, ap, sym, subst, cond, length, Some, None}
 use Rattle.std.specs.Prelude.{nat_eq, slice_get, swap_remove, IsSome}
 use Rattle.std.specs.Map.{lookup}
-use Rattle.std.proofs.lemmas.Option.{slice_get_within}
 use Rattle.interest_table.specs.Inside.{same_name, stamp_of, row_of, row_under, stamp_in, is_that, ArePlaced}
 use Rattle.interest_table.proofs.Placed.{eq_named, renamed, found_at, taken_out, moved_stands, rows_fewer}
 use Rattle.interest_table.proofs.stamped.StampedRows.take.Goals as goal
 
-out : (c : goal.After-place_anew-arg-2-1) → (slice_get c.self.inside.rows.entries c.in-Some.index ≡ Some (c.in-Some.named, c.in-Some.stamp)) × (c.in-Some.index < length c.self.inside.rows.entries)
-    × (c.swap_remove_full.new.self.entries ≡ swap_remove c.self.inside.rows.entries c.in-Some.index (c.in-Some.named, c.in-Some.stamp))
-out c = taken_out (eq_named c.sought.result) c.self.inside.rows.entries c.swap_remove_full.new.self.entries c.in-Some.index c.in-Some.named c.in-Some.stamp c.in-Some.ensures.index c.in-Some.ensures.key c.in-Some.ensures.value c.in-Some.ensures.entries
-
 pub place_anew-requires : goal.place_anew-requires
 place_anew-requires c =
-    subst (λ l. (stamp : ℕ) → stamp_in l c.in-Some.index ≡ Some stamp → IsSome (lookup (nat_eq stamp) c.swap_remove.new.self.entries)) (sym (out c).2)
-    (moved_stands c.self.inside.rows.entries c.self.inside.places.entries c.swap_remove.new.self.entries c.in-Some.named c.in-Some.stamp c.in-Some.index (c.in-Some.named, c.in-Some.stamp) c.self.invariant (out c).0 (out c).1 c.swap_remove.ensures.updates.0)
+    let out = taken_out (eq_named c.sought.result) c.self.inside.rows.entries c.swap_remove_full.new.self.entries c.in-Some.index c.in-Some.named c.in-Some.stamp c.in-Some.ensures.index c.in-Some.ensures.key c.in-Some.ensures.value c.in-Some.ensures.entries in
+    subst (λ l. (stamp : ℕ) → stamp_in l c.in-Some.index ≡ Some stamp → IsSome (lookup (nat_eq stamp) c.swap_remove.new.self.entries)) (sym out.2)
+    (moved_stands c.self.inside.rows.entries c.self.inside.places.entries c.swap_remove.new.self.entries c.in-Some.named c.in-Some.stamp c.in-Some.index (c.in-Some.named, c.in-Some.stamp) c.self.invariant out.0 out.1 c.swap_remove.ensures.updates.0)
 
 taken : (c : goal.After-place_anew) → (slice_get c.self.inside.rows.entries c.in-Some.index ≡ Some (c.in-Some.named, c.in-Some.stamp)) × (c.in-Some.index < length c.self.inside.rows.entries)
     × (c.swap_remove_full.new.self.entries ≡ swap_remove c.self.inside.rows.entries c.in-Some.index (c.in-Some.named, c.in-Some.stamp))
