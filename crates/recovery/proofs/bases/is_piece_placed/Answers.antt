@@ -33,3 +33,6 @@ returns c = λ places h.
     let run = c.blocks-indexes.result in
     let end : c.loop-index.index ≡ run.end = omega (arith, c.blocks-indexes.ensures.ordered, c.loop-index-test.false, c.loop-index.auto) in
     sym (all_pass (has_place places) (pairs_at c.args.block (spots_in piece)) (λ q has. c.loop-index.invariant places h q (ap (λ n. in_run piece.file run.start n q) end ∙ sym (c.blocks-indexes.ensures.blocks q) ∙ has)))
+
+pub blocks-indexes-requires-clause-fits : goal.blocks-indexes-requires-clause-fits
+blocks-indexes-requires-clause-fits c = omega arith

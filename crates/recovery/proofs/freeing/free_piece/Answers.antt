@@ -36,3 +36,6 @@ returns-clause-gone c = λ a pair has unused e.
     let end : c.loop-index.index ≡ run.end = omega (arith, c.blocks-indexes.ensures.ordered, c.loop-index-test.false, c.loop-index.auto) in
     c.loop-index.invariant.gone a pair
     (ap (λ n. in_run piece.file run.start n pair) end ∙ sym (c.blocks-indexes.ensures.blocks pair) ∙ ap (λ n. has_pair (pairs_at n (spots_in piece)) pair) c.block.ensures.value ∙ has) unused e
+
+pub blocks-indexes-requires-clause-fits : goal.blocks-indexes-requires-clause-fits
+blocks-indexes-requires-clause-fits c = omega arith
