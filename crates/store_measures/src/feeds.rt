@@ -81,7 +81,7 @@ fn time_window<R: Clock, D: Disk>(
     Ok(middle(&mut figures))
 }
 
-// The nanoseconds that the reads of a window's blocks alone take, the mean of as many windows from one of the passage on.
+// The nanoseconds that the reads of a window's blocks alone take, the mean of as many windows from one of the passage on. The rest of the passage is read before and behind them, so they lie in no cache, as those of a Feed.
 fn time_reads<R: Clock, D: Disk>(
     rt: &R,
     disk: &mut D,
@@ -92,9 +92,11 @@ fn time_reads<R: Clock, D: Disk>(
     let first = passage.len().min(4 * window as usize);
     let last = passage.len().min(first + 4 * FEEDS as usize);
     let mut room = [0; BLOCK as usize];
+    read_all(disk, &passage[..first], &mut room, &mut [])?;
     let start = Instant::now(rt)?;
     read_all(disk, &passage[first..last], &mut room, &mut [])?;
     let took = start.elapsed(rt)?;
+    read_all(disk, &passage[last..], &mut room, &mut [])?;
     Ok(took.as_nanos() / u128::from(FEEDS))
 }
 
