@@ -53,6 +53,7 @@ fn is_piece_placed(blocks: &BlockMap, block: u32, piece: &Piece) -> bool
     requires { 8 ≤ block }
     ensures { (places : List Placed) → HoldsPlaces blocks.now.holders places → result ≡ list_all (has_place places) (pairs_at block (spots_in piece.now)) }
 {
+    let (_from, _len) = (piece.from, piece.len);
     let indexes = piece.blocks(block);
     for index in indexes.start..indexes.end {
         if blocks.address(Owner::File(piece.file), index).is_none() {

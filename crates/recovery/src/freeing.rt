@@ -35,6 +35,7 @@ fn free_piece(ropes: &RopeTable, blocks: &mut BlockMap, piece: &Piece)
     ensures gone { (a : ℕ) (pair : BlockPair) → has_pair (pairs_at ropes.now.block (spots_in piece.now)) pair ≡ true → uses_at ropes.now pair ≡ 0 → holder_at blocks.new.holders a ≢ Some (block_of (Owner.File pair.file) pair.index) }
     ensures size { length blocks.new.holders ≡ length blocks.old.holders }
 {
+    let (_from, _len) = (piece.from, piece.len);
     let indexes = piece.blocks(ropes.block());
     for index in indexes.start..indexes.end {
         free_block(ropes, blocks, piece.file, index);
