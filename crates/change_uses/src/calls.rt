@@ -1,17 +1,16 @@
 //! Each call asked once of the tables of a small disk.
 
-ghost use Rattle.std.specs.Prelude.{◌≡◌, is_some, IfOk, IsTrue};
-ghost use Rattle.voice_model.specs.Replay.{brings};
+ghost use Rattle.std.specs.Prelude.{IfOk, IsTrue};
 ghost use Rattle.recovery.specs.Shown.{IsParts};
 ghost use Rattle.row_calls.specs.Asked.{is_row_call};
 
-use change_codec::get;
+use crate::replays::{empty_parts, replayed, small_shape};
 use recovery::Parts;
 use row_calls::{Asked, Growth, ask};
 use std::alloc::Global;
 use std::test::Fail;
-use voice_model::{Call, Change, Class, Key, KeyList, Note, Reply};
-use voice_units::{BadShape, Graces, Moment, NoMemory, RopeId, Shape};
+use voice_model::{Call, Class, Key, KeyList, Note, Reply};
+use voice_units::{Moment, NoMemory, RopeId, Shape};
 
 // What stands for Done, and for a refusal.
 const DONE: u64 = 1000;
@@ -28,58 +27,6 @@ const UNTIL: [u8; 22] = [
 const LISTED: [u8; 14] = [3, 3, 2, 0, 1, 0, 0, 0, 0, 0, 0, 0, 1, 0];
 
 const MOMENT: [u8; 9] = [7, 0, 0, 0, 0, 0, 0, 0, 5];
-
-// 16 blocks of 8 samples.
-fn small_shape() -> Result<Shape, BadShape> {
-    let graces = Graces {
-        common: 60,
-        held: 60,
-        until: 60,
-        listed: 60,
-    };
-    Shape::new(2, 8, 16, 512, graces, 4, 1216)
-}
-
-fn empty_parts(alloc: Global, shape: &Shape) -> Result<Parts, NoMemory>
-    ensures { IfOk result (λ parts. IsParts shape.now parts) }
-{
-    Parts::empty(alloc, shape)
-}
-
-// Whether a running server makes changes of this kind.
-fn is_of_a_server(change: &Change) -> bool
-    ensures { result ≡ is_some (brings change.now) }
-{
-    match change {
-        Change::Base(..)
-        | Change::Base2(..)
-        | Change::File(..)
-        | Change::File2(..)
-        | Change::Rope(..)
-        | Change::Rope2(..) => false,
-        _ => true,
-    }
-}
-
-// Tries the change that bytes spell, as replay does.
-fn replayed(parts: &mut Parts, alloc: Global, shape: &Shape, bytes: &[u8])
-    requires { IsParts shape.now parts.old }
-    ensures { IsParts shape.now parts.new }
-{
-    let Ok(change) = get(alloc, bytes) else {
-        return;
-    };
-    if !is_of_a_server(&change) {
-        return;
-    }
-    if parts.ropes.count() > 999 {
-        return;
-    }
-    if parts.interests.is_full() {
-        return;
-    }
-    let _done = parts.apply(alloc, shape, &change);
-}
 
 fn filled(alloc: Global, shape: &Shape) -> Result<Parts, NoMemory>
     ensures { IfOk result (λ parts. IsParts shape.now parts) }
@@ -163,7 +110,7 @@ fn all_asked(
 #[test]
 fn calls_asked_of_two_rows(rt: HostRuntime) -> Result<(), Fail> {
     let alloc = rt.alloc();
-    let shape = small_shape()?;
+    let shape = small_shape(60)?;
     let first = Key::new(&[0, 0])?;
     let next = Key::new(&[0, 2])?;
     let note = Note::new(&[0, 0, 0, 0, 0, 0, 0, 9])?;

@@ -1,13 +1,14 @@
 //! Changes made ready over the tables of a small disk, and what stands once they are done.
 
-ghost use Rattle.std.specs.Prelude.{◌≡◌, true, is_some, IfOk, Option};
-ghost use Rattle.voice_model.specs.Replay.{Rebuilt, brings};
+ghost use Rattle.std.specs.Prelude.{◌≡◌, true, IfOk, Option};
+ghost use Rattle.voice_model.specs.Replay.{Rebuilt};
 ghost use Rattle.voice_model.specs.declared.Change.{Change};
 ghost use Rattle.voice_model.specs.declared.changes.Change.TheVariants as changes;
 ghost use Rattle.voice_model.specs.Spelling.{keeps_grammar};
 ghost use Rattle.recovery.specs.Shown.{IsParts, Rebuilds};
 ghost use Rattle.ready_changes.specs.Ready.{MayBeReady};
 
+use crate::replays::{empty_parts, replayed, small_shape};
 use change_codec::get;
 use ready_changes::{
     ReadyChange, perform, ready_advance, ready_census, ready_forget, ready_retain, ready_sweep,
@@ -18,7 +19,7 @@ use std::marker::Brand;
 use std::sync::ledger::{Blank, Ledger};
 use std::test::Fail;
 use voice_model::{Change, Class, Key, KeyList, Row};
-use voice_units::{BadShape, Graces, Moment, NoMemory, RopeId, Shape, Steps};
+use voice_units::{Moment, NoMemory, RopeId, Shape, Steps};
 
 // Where a change may not be asked, or memory wants.
 const REFUSED: u64 = 999_999;
@@ -32,58 +33,6 @@ const HELD: [u8; 14] = [3, 1, 2, 0, 0, 0, 0, 0, 0, 0, 0, 0, 2, 0];
 const UNTIL: [u8; 22] = [
     3, 2, 2, 0, 0, 0, 0, 0, 0, 0, 0, 0, 2, 8, 0, 0, 0, 0, 0, 0, 0, 5,
 ];
-
-// 16 blocks of 8 samples. A rope that lost a row of class Until waits no longer.
-fn small_shape() -> Result<Shape, BadShape> {
-    let graces = Graces {
-        common: 60,
-        held: 60,
-        until: 0,
-        listed: 60,
-    };
-    Shape::new(2, 8, 16, 512, graces, 4, 1216)
-}
-
-fn empty_parts(alloc: Global, shape: &Shape) -> Result<Parts, NoMemory>
-    ensures { IfOk result (λ parts. IsParts shape.now parts) }
-{
-    Parts::empty(alloc, shape)
-}
-
-// Whether a running server makes changes of this kind.
-fn is_of_a_server(change: &Change) -> bool
-    ensures { result ≡ is_some (brings change.now) }
-{
-    match change {
-        Change::Base(..)
-        | Change::Base2(..)
-        | Change::File(..)
-        | Change::File2(..)
-        | Change::Rope(..)
-        | Change::Rope2(..) => false,
-        _ => true,
-    }
-}
-
-// Tries the change that bytes spell, as replay does.
-fn replayed(parts: &mut Parts, alloc: Global, shape: &Shape, bytes: &[u8])
-    requires { IsParts shape.now parts.old }
-    ensures { IsParts shape.now parts.new }
-{
-    let Ok(change) = get(alloc, bytes) else {
-        return;
-    };
-    if !is_of_a_server(&change) {
-        return;
-    }
-    if parts.ropes.count() > 999 {
-        return;
-    }
-    if parts.interests.is_full() {
-        return;
-    }
-    let _done = parts.apply(alloc, shape, &change);
-}
 
 // Rope 1 has the blocks at 0, 1 and 2, and the others have none. Rope 2 has these rows and rope 1 as many of class Listed.
 fn filled(alloc: Global, shape: &Shape, row: &[u8]) -> Result<Parts, NoMemory>
@@ -272,7 +221,7 @@ fn asked(parts: &mut Parts, alloc: Global, shape: &Shape, row: &[u8], ask: Ask) 
 #[test]
 fn rows_come_and_go(rt: HostRuntime) -> Result<(), Fail> {
     let alloc = rt.alloc();
-    let Ok(shape) = small_shape() else {
+    let Ok(shape) = small_shape(0) else {
         return Ok(());
     };
     let rows = [
@@ -298,7 +247,7 @@ fn rows_come_and_go(rt: HostRuntime) -> Result<(), Fail> {
 #[test]
 fn many_rows_go_by_a_census(rt: HostRuntime) -> Result<(), Fail> {
     let alloc = rt.alloc();
-    let Ok(shape) = small_shape() else {
+    let Ok(shape) = small_shape(0) else {
         return Ok(());
     };
     let mut parts = filled(alloc, &shape, &HELD)?;
@@ -313,7 +262,7 @@ fn many_rows_go_by_a_census(rt: HostRuntime) -> Result<(), Fail> {
 #[test]
 fn many_ropes_go_by_a_sweep(rt: HostRuntime) -> Result<(), Fail> {
     let alloc = rt.alloc();
-    let Ok(shape) = small_shape() else {
+    let Ok(shape) = small_shape(0) else {
         return Ok(());
     };
     let rows = [

@@ -133,6 +133,106 @@ fn a_kept_rope_is_not_due(rt: HostRuntime) -> Result<(), Fail> {
 }
 
 #[test]
+fn a_rope_that_is_idle_again_stays_kept(rt: HostRuntime) -> Result<(), Fail> {
+    let mut table = of_three(rt.alloc())?;
+    table.keep(RopeId(2), true);
+    table.set_idle(RopeId(2), Moment(100), 2, 50);
+    table.set_idle(RopeId(1), Moment(100), 2, 50);
+    assert!(rt; table.kept(RopeId(2)) == Some(true) && table.last(RopeId(2)) == Some(2));
+    assert!(rt; due_are(&table, &[(120, 3), (150, 1)]));
+    table.keep(RopeId(2), false);
+    assert!(rt; due_are(&table, &[(120, 3), (150, 1), (150, 2)]));
+    Ok(())
+}
+
+// A table with room for one more rope of these pieces gets it, where each of its blocks is in use and the number is not live.
+fn put_used(
+    table: &mut RopeTable,
+    before: u32,
+    id: RopeId,
+    pieces: Pieces,
+) -> Result<bool, NoMemory>
+    requires few { before < 2000 }
+    requires uses { (pair : BlockPair) → uses_at table.old pair ≤ before }
+    ensures uses { (pair : BlockPair) → uses_at table.new pair ≤ before + 1 }
+{
+    table.reserve(0)?;
+    if table.get(id).is_some() {
+        return Err(NoMemory);
+    }
+    Ok(table.add_used(id, pieces, Moment(0), 0, 60))
+}
+
+#[test]
+fn a_rope_of_an_unused_block_is_not_added(rt: HostRuntime) -> Result<(), Fail> {
+    let alloc = rt.alloc();
+    let mut table = of_three(alloc)?;
+    let mut list = [Piece {
+        file: RopeId(2),
+        from: 8,
+        len: 8,
+    }; 2];
+    list[1].file = RopeId(4);
+    let unused = Pieces::of(alloc, &list)?;
+    assert!(rt; !put_used(&mut table, 3, RopeId(5), unused)?);
+    assert!(rt; table.count() == 3 && table.uses(RopeId(2), 0) == 1);
+    list[1].file = RopeId(3);
+    let used = Pieces::of(alloc, &list)?;
+    assert!(rt; put_used(&mut table, 4, RopeId(5), used)?);
+    assert!(rt; table.uses(RopeId(2), 0) == 2 && table.uses(RopeId(3), 0) == 2);
+    assert!(rt; live_are(&table, 3, 3, 5));
+    Ok(())
+}
+
+// A piece of so many blocks of a file.
+fn long_piece(file: RopeId, blocks: u32) -> Piece
+    requires { blocks < 1000 }
+    ensures from { result.from ≡ 0 }
+    ensures len { result.len < 2 ^ 20 }
+{
+    Piece {
+        file,
+        from: 0,
+        len: blocks * BLOCK,
+    }
+}
+
+#[test]
+fn blocks_are_counted_once_in_any_order(rt: HostRuntime) -> Result<(), Fail> {
+    let alloc = rt.alloc();
+    let rising = [long_piece(RopeId(7), 100), long_piece(RopeId(8), 100)];
+    let falling = [long_piece(RopeId(8), 100), long_piece(RopeId(7), 100)];
+    let mut table = RopeTable::new(alloc, BLOCK);
+    put(
+        &mut table,
+        0,
+        RopeId(9),
+        Pieces::of(alloc, &rising)?,
+        Moment(0),
+        60,
+    )?;
+    put(
+        &mut table,
+        1,
+        RopeId(10),
+        Pieces::of(alloc, &falling)?,
+        Moment(0),
+        60,
+    )?;
+    for (file, index) in [(7, 0), (7, 99), (8, 0), (8, 99)] {
+        assert!(rt;
+            table.uses(RopeId(file), index) == 2,
+            "file {file}, block {index}"
+        );
+    }
+    let _first = table.remove(RopeId(9));
+    assert!(rt; live_are(&table, 200, 2, 2) && table.uses(RopeId(7), 99) == 1);
+    let _second = table.remove(RopeId(10));
+    assert!(rt; live_are(&table, 0, 0, 0) && table.uses(RopeId(8), 99) == 0);
+    Ok(())
+}
+
+#[test]
 fn numbers_are_gone_through_in_order(rt: HostRuntime) -> Result<(), Fail> {
     let table = of_three(rt.alloc())?;
     let rows = [(0, Some(1)), (1, Some(2)), (2, Some(3)), (3, None)];

@@ -5,7 +5,7 @@ use Rattle.voice_units.specs.declared.errors.NoMemory.{NoMemory}
 use Rattle.voice_model.specs.Replay.{nothing_rebuilt}
 use Rattle.recovery.specs.declared.parts.Parts.{Parts}
 use Rattle.recovery.specs.Shown.{Rebuilds, IsParts}
-use Rattle.change_uses.proofs.calls.empty_parts.Goals as goal
+use Rattle.change_uses.proofs.replays.empty_parts.Goals as goal
 
 are_parts : (shape : Shape) (result : Result Parts NoMemory) → IfOk result (λ parts. Rebuilds parts (nothing_rebuilt shape)) → IfOk result (λ parts. IsParts shape parts)
 are_parts shape (Ok parts) h = record { what = nothing_rebuilt shape; shows = h; in_shape = refl }
