@@ -44,16 +44,16 @@ impl Eq for NamedRow {
 }
 
 impl Hash for NamedRow {
-    ghost use Rattle.std.specs.Prelude.{[], ◌∷◌, ◌++◌};
+    ghost use Rattle.std.specs.Prelude.{◌∷◌};
     ghost use Rattle.std.specs.Hash as fed;
     ghost use Rattle.std.proofs.Common.{ap₂};
     ghost use Rattle.std.proofs.lemmas.Bool.{eqb-true, and_parts};
     ghost use Rattle.std.proofs.lemmas.Slice.Eq.{bytes_eq-Decides};
     ghost use Rattle.voice_model.specs.State.{class_number};
 
-    ghost hash_input = { λ a. fed.u8 (class_number a.row.class) ++ a.row.key ∷ [] };
+    ghost hash_input = { λ a. a.row.key ∷ fed.u8 (class_number a.row.class) };
 
-    ghost respects_eq = { λ a b h. ap₂ (λ n key. fed.u8 n ++ key ∷ []) (eqb-true (class_number a.row.class) (class_number b.row.class) (and_parts _ _ h).0) ((bytes_eq-Decides a.row.key b.row.key).0 (and_parts _ _ h).1) };
+    ghost respects_eq = { λ a b h. ap₂ (λ n key. key ∷ fed.u8 n) (eqb-true (class_number a.row.class) (class_number b.row.class) (and_parts _ _ h).0) ((bytes_eq-Decides a.row.key b.row.key).0 (and_parts _ _ h).1) };
 
     fn hash<H: Hasher>(&self, state: &mut H) {
         let number = match self.row.class {
@@ -61,8 +61,8 @@ impl Hash for NamedRow {
             Class::Until => 2,
             Class::Listed => 3,
         };
-        state.write_u8(number);
         self.row.key.hash(state);
+        state.write_u8(number);
     }
 }
 
