@@ -1,7 +1,7 @@
 -- The blocks of a window are brought in one after another.
-use Rattle.std.proofs.Common.{◌≡◌, ◌≢◌, ℕ, zero, suc, ◌+◌, ◌/◌, ◌<◌, ◌≤◌, ◌⊎◌, inl, inr, Bool, true, false, ◌&&◌, ◌||◌, cond, ◌==◌, List, [], ◌∷◌, length, drop, refl, sym, ◌∙◌, ap, ap₂, subst, arith, Option, Some, get_or}
+use Rattle.std.proofs.Common.{◌≡◌, ◌≢◌, ℕ, zero, suc, ◌+◌, ◌/◌, ◌<◌, ◌≤◌, ◌⊎◌, inl, inr, Bool, true, false, ◌&&◌, ◌||◌, cond, ◌==◌, List, [], ◌∷◌, length, drop, refl, sym, ◌∙◌, ap, ap₂, subst, arith, Option, Some, get_or, set}
 use Rattle.std.proofs.lemmas.Bool.{eqb-true, eq-eqb}
-use Rattle.std.proofs.lemmas.List.{drop_more}
+use Rattle.std.proofs.lemmas.List.{get_or-set_same, get_or-set_other}
 use Rattle.std.specs.Prelude.{slice_get, Result, IsTrue}
 use Rattle.std.specs.List.{list_any}
 use Rattle.voice_units.specs.declared.pieces.Piece.{Piece}
@@ -9,7 +9,7 @@ use Rattle.voice_units.specs.declared.shapes.Shape.{Shape}
 use Rattle.voice_outside.specs.Disk.{Told, MakesAtMost}
 use Rattle.voice_blocks.specs.Holders.{Holders}
 use Rattle.playing.specs.declared.blocks.Block.{Block}
-use Rattle.playing.specs.Frames.{FramesState, resident_at, block_at, is_resident, holds, is_in, is_wanted, missing, HoldsBytes, AreOnDisk, OnlyReads, HasRead, IsLoaded, IsReadied, IsBroughtIn, IsReady, AreReady}
+use Rattle.playing.specs.Frames.{FramesState, resident_at, block_at, is_resident, holds, is_in, is_wanted, missing, HoldsBytes, AreOnDisk, OnlyReads, HasRead, IsLoaded, IsReadied, IsBroughtIn, IsReady, AreReady, EachHas, AreFound}
 use Rattle.playing.proofs.Kept.{by_set, not_there}
 use Rattle.playing.proofs.Missing.{AreAmong, own_block, among_rest, one_fewer, absent_counts}
 
@@ -98,32 +98,56 @@ frames_more block window b s0 s s' wanted h (inr (frame, k)) = record {
 -- ---- the first stretches
 
 -- the first n stretches are in frames
-pub record IsUnderway (shape : Shape) (held : Holders) (window : List Piece) (n : ℕ) (s0 s : FramesState) (t0 t : Told) : Type 0 where
+pub record IsUnderway (shape : Shape) (held : Holders) (window : List Piece) (frames_found : List ℕ) (n : ℕ) (s0 s : FramesState) (t0 t : Told) : Type 0 where
   pub made : ℕ
   pub read : HasRead made t0 t
   pub count : made + missing shape.block s.resident (drop n window) ≤ missing shape.block s0.resident window
   pub frames : IsBroughtIn shape.block window s0 s
-  pub ready : AreReady shape.block s.resident window n
+  pub found : AreFound shape.block s.resident window frames_found n
   pub bytes : IsTrue t0.honest → (bytes : ℕ → ℕ → List ℕ) → AreOnDisk bytes shape t0.bytes held → HoldsBytes bytes s0 → HoldsBytes bytes s
 
-pub begun : (shape : Shape) (held : Holders) (window : List Piece) (s : FramesState) (t : Told) → IsUnderway shape held window 0 s s t t
-begun shape held window s t = record {
+pub begun : (shape : Shape) (held : Holders) (window : List Piece) (found : List ℕ) (s : FramesState) (t : Told) → IsUnderway shape held window found 0 s s t t
+begun shape held window found s t = record {
   made = 0;
   read = none_read t;
   count = omega arith;
   frames = same_frames shape.block window s;
-  ready = λ j x low. absurd (omega arith);
+  found = λ j x low. absurd (omega arith);
   bytes = λ honest bytes there was. was;
 }
 
--- a stretch that is ready stays so
-ready_more : (block : ℕ) (window : List Piece) (b : Block) (s s' : FramesState) (x : Piece) → list_any (is_in block (block_at block x)) window ≡ true → IsReadied block window b s s' → IsReady block s.resident x → IsReady block s'.resident x
-ready_more block window b s s' x among (inl same) h = subst (λ (y : FramesState). IsReady block y.resident x) (sym same) h
-ready_more block window b s s' x among (inr (frame, k)) (f, at) = (f, stays (loaded_left block window b frame s s' k f (block_at block x) at))
+-- a frame keeps the block of a stretch
+stays_found : (block : ℕ) (window : List Piece) (b : Block) (s s' : FramesState) (x : Piece) (f : ℕ) → list_any (is_in block (block_at block x)) window ≡ true → IsReadied block window b s s' → resident_at s.resident f ≡ Some (block_at block x) → resident_at s'.resident f ≡ Some (block_at block x)
+stays_found block window b s s' x f among (inl same) at = ap (λ (y : FramesState). resident_at y.resident f) same ∙ at
+stays_found block window b s s' x f among (inr (frame, k)) at = stays (loaded_left block window b frame s s' k f (block_at block x) at)
   where
     stays : (resident_at s'.resident f ≡ Some (block_at block x)) ⊎ ((resident_at s'.resident f ≡ Some b) × (is_wanted block window (Some (block_at block x)) ≡ false)) → resident_at s'.resident f ≡ Some (block_at block x)
     stays (inl is) = is
     stays (inr gone) = absurd (no among gone.1)
+
+-- frames that are found hold their blocks
+pub are_ready : (block : ℕ) (resident : List (Option Block)) (window : List Piece) (found : List ℕ) (n : ℕ) → AreFound block resident window found n → AreReady block resident window n
+are_ready block resident window found n h j s low at = (get_or found j 0, h j s low at)
+
+-- the next stretch has its number too
+pub each_more : (P : Piece → ℕ → Type 0) (window : List Piece) (numbers : List ℕ) (n v : ℕ) (x : Piece) → n < length numbers → slice_get window n ≡ Some x → P x v → EachHas P window numbers n → EachHas P window (set numbers n v) (n + 1)
+each_more P window numbers n v x low at new h j s less there = by_place (j == n) refl
+  where
+    some_same : (y z : Piece) → Some y ≡ Some z → y ≡ z
+    some_same y z e = cc
+
+    below : (a b : ℕ) → a < b + 1 → (a ≡ b → ⊥) → a < b
+    below a b lt ne = omega arith
+
+    by_place : (t : Bool) → (j == n) ≡ t → P s (get_or (set numbers n v) j 0)
+    by_place true e =
+        let same : j ≡ n = eqb-true j n e in
+        subst (λ (i : ℕ). P s (get_or (set numbers n v) i 0)) (sym same)
+        (subst (P s) (sym (get_or-set_same numbers n v 0 low))
+        (subst (λ (y : Piece). P y v) (some_same x s (sym at ∙ ap (slice_get window) (sym same) ∙ there)) new))
+    by_place false e =
+        let other : j ≡ n → ⊥ = λ same. no (eq-eqb j n same) e in
+        subst (P s) (sym (get_or-set_other numbers n j v 0 other)) (h j s (below j n less other) there)
 
 -- a stretch of a window is in a block that it wants
 pub any_get : {A : Type 0} (p : A → Bool) (xs : List A) (j : ℕ) (x : A) → slice_get xs j ≡ Some x → p x ≡ true → list_any p xs ≡ true
@@ -182,49 +206,44 @@ one_counts block resident x rest = either (is_resident resident x.file (x.from /
     either true e = omega arith
     either false e = by (list_any (is_in block (block_at block x)) rest) (missing block resident rest) (absent_counts block resident (block_at block x) rest e)
 
-missing_at : (block : ℕ) (resident : List (Option Block)) (window : List Piece) (n : ℕ) (x : Piece) → n < length window → x ≡ get_or window n x → missing block resident (drop n window) ≡ cond (is_resident resident x.file (x.from / block) || list_any (is_in block (block_at block x)) (drop (n + 1) window)) 0 1 + missing block resident (drop (n + 1) window)
-missing_at block resident window n x low at = ap (missing block resident) (drop_more window n x low ∙ ap (λ (y : Piece). y ∷ drop (n + 1) window) (sym at))
+-- what lies behind the first n is the next one and what lies behind it
+next_of : {A : Type 0} (xs : List A) (n : ℕ) (x : A) → slice_get xs n ≡ Some x → drop n xs ≡ x ∷ drop (n + 1) xs
+next_of [] n x at = cc
+next_of (y ∷ xs) zero x at = let e : y ≡ x = cc in ap (λ z. z ∷ xs) e
+next_of (y ∷ xs) (suc n) x at = next_of xs n x at ∙ ap (λ k. x ∷ drop k (y ∷ xs)) (let e : suc (n + 1) ≡ suc n + 1 = omega arith in e)
+
+missing_at : (block : ℕ) (resident : List (Option Block)) (window : List Piece) (n : ℕ) (x : Piece) → slice_get window n ≡ Some x → missing block resident (drop n window) ≡ cond (is_resident resident x.file (x.from / block) || list_any (is_in block (block_at block x)) (drop (n + 1) window)) 0 1 + missing block resident (drop (n + 1) window)
+missing_at block resident window n x at = ap (missing block resident) (next_of window n x at)
 
 -- one stretch more is in a frame
-pub brought_more : {T E : Type 0} (shape : Shape) (held : Holders) (window : List Piece) (n : ℕ) (s0 s s' : FramesState) (t0 t t' : Told) (x : Piece) (r : Result T E)
-    → IsUnderway shape held window n s0 s t0 t → n < length window → x ≡ get_or window n x
+pub brought_more : {T E : Type 0} (shape : Shape) (held : Holders) (window : List Piece) (found : List ℕ) (n f : ℕ) (s0 s s' : FramesState) (t0 t t' : Told) (x : Piece) (r : Result T E)
+    → IsUnderway shape held window found n s0 s t0 t → n < length found → slice_get window n ≡ Some x
     → MakesAtMost (cond (is_resident s.resident x.file (x.from / shape.block)) 0 1) t t' r → (IsTrue t.honest → OnlyReads t t')
-    → IsReady shape.block s'.resident x → IsReadied shape.block window (block_at shape.block x) s s'
+    → resident_at s'.resident f ≡ Some (block_at shape.block x) → IsReadied shape.block window (block_at shape.block x) s s'
     → (IsTrue t.honest → (bytes : ℕ → ℕ → List ℕ) → AreOnDisk bytes shape t.bytes held → HoldsBytes bytes s → HoldsBytes bytes s')
-    → IsUnderway shape held window (n + 1) s0 s' t0 t'
-brought_more shape held window n s0 s s' t0 t t' x r h low at made reads ready step bytes =
+    → IsUnderway shape held window (set found n f) (n + 1) s0 s' t0 t'
+brought_more shape held window found n f s0 s s' t0 t t' x r h low at made reads here step bytes =
     let one = cond (is_resident s.resident x.file (x.from / shape.block)) 0 1 in
-    let wanted = wanted_at shape.block window n x (get_slice window n x low at) in
-    let was = missing_at shape.block s.resident window n x low at in
-    let next = counts_more shape.block window (drop (n + 1) window) s s' x (among_rest shape.block window (n + 1)) step ready in
+    let wanted = wanted_at shape.block window n x at in
+    let was = missing_at shape.block s.resident window n x at in
+    let next = counts_more shape.block window (drop (n + 1) window) s s' x (among_rest shape.block window (n + 1)) step (f, here) in
     record {
       made = h.made + one;
       read = one_read h.made one (h.made + one) t0 t t' r h.read made reads (omega arith);
       count = omega (arith, h.count, was, next);
       frames = frames_more shape.block window (block_at shape.block x) s0 s s' wanted h.frames step;
-      ready = λ j y less there. by_place j y there (j == n) refl less;
+      found = each_more (λ y g. resident_at s'.resident g ≡ Some (block_at shape.block y)) window found n f x low at here
+          (λ j y less there. stays_found shape.block window (block_at shape.block x) s s' y (get_or found j 0) (wanted_at shape.block window j y there) step (h.found j y less there));
       bytes = λ honest bs there held_bytes. bytes (subst IsTrue (sym h.read.honest) honest) bs (subst (λ (image : List ℕ). AreOnDisk bs shape image held) (sym (h.read.reads honest).bytes) there) (h.bytes honest bs there held_bytes);
     }
-  where
-    by_place : (j : ℕ) (y : Piece) → slice_get window j ≡ Some y → (e : Bool) → (j == n) ≡ e → j < n + 1 → IsReady shape.block s'.resident y
-    by_place j y there true e less =
-        let same : x ≡ y = some_same (sym (get_slice window n x low at) ∙ ap (slice_get window) (sym (eqb-true j n e)) ∙ there) in
-        subst (IsReady shape.block s'.resident) same ready
-      where
-        some_same : Some x ≡ Some y → x ≡ y
-        some_same e = cc
-    by_place j y there false e less = ready_more shape.block window (block_at shape.block x) s s' y (wanted_at shape.block window j y there) step (h.ready j y (below j n less (λ same. no (eq-eqb j n same) e)) there)
-      where
-        below : (a b : ℕ) → a < b + 1 → (a ≡ b → ⊥) → a < b
-        below a b lt ne = omega arith
 
 -- a read that fails is counted
-pub failed_more : {T E : Type 0} (shape : Shape) (held : Holders) (window : List Piece) (n : ℕ) (s0 s : FramesState) (t0 t t' : Told) (x : Piece) (r : Result T E)
-    → IsUnderway shape held window n s0 s t0 t → n < length window → x ≡ get_or window n x
+pub failed_more : {T E : Type 0} (shape : Shape) (held : Holders) (window : List Piece) (found : List ℕ) (n : ℕ) (s0 s : FramesState) (t0 t t' : Told) (x : Piece) (r : Result T E)
+    → IsUnderway shape held window found n s0 s t0 t → slice_get window n ≡ Some x
     → MakesAtMost (cond (is_resident s.resident x.file (x.from / shape.block)) 0 1) t t' r → (IsTrue t.honest → OnlyReads t t')
     → HasRead (missing shape.block s0.resident window) t0 t'
-failed_more shape held window n s0 s t0 t t' x r h low at made reads =
+failed_more shape held window found n s0 s t0 t t' x r h at made reads =
     let one = cond (is_resident s.resident x.file (x.from / shape.block)) 0 1 in
-    let was = missing_at shape.block s.resident window n x low at in
+    let was = missing_at shape.block s.resident window n x at in
     let next = one_counts shape.block s.resident x (drop (n + 1) window) in
     one_read h.made one (missing shape.block s0.resident window) t0 t t' r h.read made reads (omega (arith, h.count, was, next))

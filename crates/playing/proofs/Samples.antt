@@ -1,5 +1,5 @@
 -- The samples of a lease are those of its window.
-use Rattle.std.proofs.Common.{◌≡◌, ℕ, zero, suc, ◌+◌, ◌-◌, ◌*◌, ◌/◌, ◌%◌, ◌<◌, ◌≤◌, Bool, true, false, ◌&&◌, not, cond, ◌==◌, List, [], ◌∷◌, ◌++◌, length, map, take, drop, refl, sym, ◌∙◌, ap, ap₂, subst, arith, Option, Some, get_or}
+use Rattle.std.proofs.Common.{◌≡◌, ℕ, zero, suc, ◌+◌, ◌-◌, ◌*◌, ◌/◌, ◌%◌, ◌<◌, ◌≤◌, Bool, true, false, ◌&&◌, not, cond, ◌==◌, List, [], ◌∷◌, ◌++◌, length, map, take, drop, refl, sym, ◌∙◌, ap, ap₂, subst, arith, Option, Some, None, get_or}
 use Rattle.std.proofs.lemmas.Bool.{eqb-true, eq-eqb}
 use Rattle.std.specs.List.{flat_map, range_with_len}
 use Rattle.std.proofs.lemmas.List.{length-map, map-append}
@@ -34,11 +34,11 @@ run bytes block file q bs (suc n) from a is at fits long =
     ∙ ap₂ (λ x l. x ∷ take n l) first (ap (λ k. drop k bs) (let e : suc a ≡ a + 1 = omega arith in e))
     ∙ ap (λ l. byte_in bytes block (record { file = file; place = from }) ∷ l) later
 
--- the frames that parts name are there, and the parts lie in them
-held_low : (resident : List (Option Block)) (f : ℕ) (b : Block) → resident_at resident f ≡ Some b → f < length resident
-held_low [] f b at = cc
-held_low (o ∷ resident) zero b at = omega arith
-held_low (o ∷ resident) (suc f) b at = let low = held_low resident f b at in omega arith
+-- an entry that is there lies in its list
+pub held_low : {A : Type 0} (xs : List (Option A)) (f : ℕ) (x : A) → get_or xs f None ≡ Some x → f < length xs
+held_low [] f x at = cc
+held_low (o ∷ xs) zero x at = omega arith
+held_low (o ∷ xs) (suc f) x at = let low = held_low xs f x at in omega arith
 
 -- each frame has the bytes of a block
 abbrev pub AreWhole : FramesState → Type 0

@@ -1,7 +1,5 @@
 -- A window is handed out.
 use Rattle.std.proofs.Common.{◌≡◌, ◌≢◌, ℕ, zero, suc, ◌+◌, ◌<◌, ◌≤◌, ◌⊎◌, inl, inr, Bool, true, false, List, [], ◌∷◌, length, map, get_or, set, drop, take, refl, sym, ◌∙◌, ap, ap₂, subst, arith, Some}
-use Rattle.std.specs.Prelude.{Result, Ok, Err, OnOk}
-use Rattle.std.specs.Result.{is_err}
 use Rattle.std.specs.List.{list_any}
 use Rattle.std.proofs.lemmas.List.{length-set, length-take, get_or-set_other}
 use Rattle.voice_units.specs.declared.pieces.Piece.{Piece}
@@ -135,10 +133,6 @@ fits_in q q1 lane more n d low some is within =
 pub count_home : (js : List Job) (more : ℕ) → length (home_with more js) ≡ length js
 count_home [] more = refl
 count_home (j ∷ js) more = refl
-
-pub of_no_err : {T E P : Type 0} (r : Result T E) → is_err r ≡ false → OnOk r P → P
-of_no_err (Ok x) none p = p
-of_no_err (Err e) none p = cc
 
 -- what is known as a window is handed out, in terms of the fields
 pub record CanSend (block more : ℕ) (self inside : LanesState) (lane : ℕ) : Type 0 where

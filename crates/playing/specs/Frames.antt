@@ -5,7 +5,7 @@
 --     is_in block b s, is_wanted block window resident      whether a stretch lies in a block;  whether a stretch of a window lies in the block that a frame holds
 --     is_resident resident file index      whether a frame holds a block
 --     IsFrames      what frames keep
-use Rattle.std.specs.Prelude.{◌≡◌, ℕ, ◌+◌, ◌*◌, ◌/◌, ◌≤◌, ◌<◌, Bool, true, false, ◌&&◌, ◌||◌, ◌==◌, List, [], ◌∷◌, length, slice_index_or, slice_set, Option, Some, None, ◌≢◌, ◌⊎◌, cond, slice_get, IsTrue, map, nat_lt}
+use Rattle.std.specs.Prelude.{◌≡◌, ℕ, ◌+◌, ◌*◌, ◌/◌, ◌≤◌, ◌<◌, Bool, true, false, ◌&&◌, ◌||◌, ◌==◌, List, [], ◌∷◌, length, slice_index, slice_index_or, slice_set, Option, Some, None, ◌≢◌, ◌⊎◌, cond, slice_get, IsTrue, map, nat_lt}
 use Rattle.std.specs.List.{list_any}
 use Rattle.voice_units.specs.declared.pieces.Piece.{Piece}
 use Rattle.frame_pool.specs.declared.views.Part.{Part}
@@ -81,9 +81,13 @@ HoldsBytes bytes s = (f : ℕ) (b : Block) → resident_at s.resident f ≡ Some
 abbrev pub AreOnDisk : (ℕ → ℕ → List ℕ) → Shape → List ℕ → Holders → Type 0
 AreOnDisk bytes shape image held = (a file index : ℕ) → holder_at held a ≡ Some (holders.block_of (File file) index) → segment image (block_place shape a) shape.block ≡ bytes file index
 
--- the address of a block of a voice file, which has one
+-- the address of a block of a voice file
+abbrev pub IsAddress : Holders → Block → ℕ → Type 0
+IsAddress held b a = holder_at held a ≡ Some (holders.block_of (File b.file) b.index)
+
+-- a block of a voice file has an address
 abbrev pub HasAddress : Holders → Block → Type 0
-HasAddress held b = (a : ℕ) × (holder_at held a ≡ Some (holders.block_of (File b.file) b.index))
+HasAddress held b = (a : ℕ) × IsAddress held b a
 
 -- reads alone were made
 pub record OnlyReads (old new : Told) : Type 0 where
@@ -118,6 +122,14 @@ missing block resident (s ∷ ss) = cond (is_resident resident s.file (s.from / 
 abbrev pub IsReady : ℕ → List (Option Block) → Piece → Type 0
 IsReady block resident s = (f : ℕ) × (resident_at resident f ≡ Some (block_at block s))
 
+-- each of the first n stretches of a window has its number
+abbrev pub EachHas : (Piece → ℕ → Type 0) → List Piece → List ℕ → ℕ → Type 0
+EachHas P window numbers n = (j : ℕ) (s : Piece) → j < n → slice_get window j ≡ Some s → P s (slice_index numbers j)
+
+-- these frames hold the blocks of the first n stretches of a window
+abbrev pub AreFound : ℕ → List (Option Block) → List Piece → List ℕ → ℕ → Type 0
+AreFound block resident = EachHas (λ s f. resident_at resident f ≡ Some (block_at block s))
+
 -- frames hold the blocks of the first n stretches of a window
 abbrev pub AreReady : ℕ → List (Option Block) → List Piece → ℕ → Type 0
 AreReady block resident window n = (j : ℕ) (s : Piece) → j < n → slice_get window j ≡ Some s → IsReady block resident s
@@ -125,6 +137,10 @@ AreReady block resident window n = (j : ℕ) (s : Piece) → j < n → slice_get
 -- the blocks of a window have addresses
 abbrev pub HaveAddresses : ℕ → Holders → List Piece → Type 0
 HaveAddresses block held window = (j : ℕ) (s : Piece) → slice_get window j ≡ Some s → HasAddress held (block_at block s)
+
+-- these are the addresses of the blocks of the first n stretches of a window
+abbrev pub AreAddresses : ℕ → Holders → List Piece → List ℕ → ℕ → Type 0
+AreAddresses block held = EachHas (λ s a. IsAddress held (block_at block s) a)
 
 -- blocks of a window got into frames that no lane reads
 pub record IsBroughtIn (block : ℕ) (window : List Piece) (old new : FramesState) : Type 0 where

@@ -1,16 +1,18 @@
 //! Frames that hold blocks.
 
-ghost use Rattle.std.specs.Prelude.{◌%◌, [], ◌∷◌, ◌++◌, ◌↔◌, None, map, replicate, ◌≡◌, ◌≢◌, ℕ, ◌*◌, ◌<◌, ◌≤◌, ◌^◌, ◌||◌, true, false, length, slice_set, Some, IfSome, IfNone, IfOk, OnOk, OnErr, IsErr, IsTrue, List, cond, ◌⊎◌, if◌then◌else◌};
+ghost use Rattle.std.specs.Prelude.{◌%◌, Option, [], ◌∷◌, ◌++◌, ◌↔◌, None, map, replicate, ◌≡◌, ◌≢◌, ℕ, ◌*◌, ◌<◌, ◌≤◌, ◌^◌, ◌||◌, true, false, length, slice_set, Some, IfSome, IfNone, IfOk, OnOk, OnErr, IsErr, IsTrue, List, cond, ◌⊎◌, if◌then◌else◌};
 ghost use Rattle.std.specs.List.{list_any};
 ghost use Rattle.voice_units.specs.Layout.{bytes_needed};
 ghost use Rattle.voice_outside.specs.Counters.{HasRisen};
+ghost use Rattle.voice_blocks.specs.Holders.{Holders};
+ghost use Rattle.playing.specs.declared.blocks.Block.{Block as BlockValue};
 ghost use Rattle.voice_outside.specs.Disk.{MakesAtMost, segment};
 ghost use Rattle.voice_blocks.specs.Place.{block_place};
 ghost use Rattle.frame_pool.specs.declared.views.Stage.TheVariants.{Free};
 ghost use Rattle.voice_units.specs.Spots.{samples_in};
 ghost use Rattle.frame_pool.specs.Steps.{lane_at, is_free, ended};
 ghost use Rattle.frame_pool.specs.Pool.{lanes_of, block_of, stage_of, hint_of, mark_of, looks_of, word_of, frame_of, spent, IsSpare};
-ghost use Rattle.playing.specs.Frames.{has_frame, is_read, is_wanted, is_in, resident_at, HoldsBytes, AreOnDisk, HasAddress, OnlyReads, IsReadied, is_resident, HaveAddresses, HasRead, AreReady, IsBroughtIn, ChangesLaneAlone, missing, if_used, uses_of, Forgets, AreUsed, holds};
+ghost use Rattle.playing.specs.Frames.{has_frame, is_read, is_wanted, is_in, resident_at, HoldsBytes, AreOnDisk, OnlyReads, IsReadied, is_resident, HaveAddresses, HasRead, AreAddresses, AreFound, IsAddress, IsBroughtIn, ChangesLaneAlone, missing, if_used, uses_of, Forgets, AreUsed, holds};
 ghost use Rattle.frame_pool.specs.Rule.{idle_lane};
 ghost use Rattle.playing.specs.Windows.{ArePartsOf, AreStretches, IsOut, IsLeaseOf};
 
@@ -102,10 +104,10 @@ fn spare_frame(
     ensures none { IfNone result ((f : ℕ) → f < length resident.now → (is_read readers.now f || is_wanted block window.now (resident_at resident.now f)) ≡ true) }
 {
     for f in 0..resident.len() {
-        if is_read(readers, f as u32) {
+        if is_wanted(window, block, resident[f]) {
             continue;
         }
-        if is_wanted(window, block, resident[f]) {
+        if is_read(readers, f as u32) {
             continue;
         }
         return Some(f as u32);
@@ -128,6 +130,24 @@ fn find_block(resident: &[Option<Block>], b: &Block) -> Option<u32>
         }
     }
     None
+}
+
+// The addresses of the blocks of a window. They are looked up before a block is read: so the look-ups wait for memory side by side.
+fn addresses_of(blocks: &BlockMap, window: &[Piece], block: u32) -> [u32; 4]
+    requires some { 0 < block }
+    requires few { length window.now ≤ 4 }
+    requires addresses { HaveAddresses block blocks.now.holders window.now }
+    ensures { AreAddresses block blocks.now.holders window.now result (length window.now) }
+{
+    let mut addresses = [0; 4];
+    for k in 0..window.len() {
+        let stretch = window[k];
+        let Some(address) = blocks.address(Owner::File(stretch.file), stretch.from / block) else {
+            unreachable!()
+        };
+        addresses[k] = address;
+    }
+    addresses
 }
 
 // Reads a block into room for it.
@@ -204,9 +224,9 @@ impl Frames {
         &mut self,
         shape: &Shape,
         disk: &mut D,
-        blocks: &BlockMap,
         lane: Lane,
         window: &[Piece],
+        address: u32,
         b: Block,
     ) -> Result<u32, Failed>
         requires some { 0 < shape.now.block }
@@ -216,21 +236,17 @@ impl Frames {
         requires free { stage_of self.old.keeper lane ≡ Free }
         requires few { length window.now ≤ 4 }
         requires wanted { list_any (is_in shape.now.block b) window.now ≡ true }
-        requires count { length blocks.now.holders ≡ shape.now.blocks }
-        requires address { HasAddress blocks.now.holders b }
+        requires within { address < shape.now.blocks }
         ensures made { MakesAtMost (cond (is_resident self.old.resident b.file b.index) 0 1) (D.told disk.old) (D.told disk.new) result }
         ensures reads { IsTrue (D.told disk.old).honest → OnlyReads (D.told disk.old) (D.told disk.new) }
         ensures frame { IfOk result (λ f. (f < length self.new.resident) × (resident_at self.new.resident f ≡ Some b)) }
         ensures step { OnOk result (IsReadied shape.now.block window.now b self.old self.new) }
-        ensures bytes { IsTrue (D.told disk.old).honest → (bytes : ℕ → ℕ → List ℕ) → AreOnDisk bytes shape.now (D.told disk.old).bytes blocks.now.holders → HoldsBytes bytes self.old → HoldsBytes bytes self.new }
+        ensures bytes { IsTrue (D.told disk.old).honest → (held : Holders) → IsAddress held b address → (bytes : ℕ → ℕ → List ℕ) → AreOnDisk bytes shape.now (D.told disk.old).bytes held → HoldsBytes bytes self.old → HoldsBytes bytes self.new }
         ensures err { OnErr result (self.new ≡ self.old) }
     {
         if let Some(frame) = find_block(&self.resident, &b) {
             return Ok(frame);
         }
-        let Some(address) = blocks.address(Owner::File(b.file), b.index) else {
-            unreachable!()
-        };
         let frame = self.spare(lane, window, shape.block, &b);
         self.load(shape, disk, address, frame, b)?;
         Ok(frame)
@@ -238,7 +254,7 @@ impl Frames {
 }
 
 impl Frames {
-    /// Brings the blocks of a window into frames. A block that a frame holds is not read.
+    /// Brings the blocks of a window into frames, and tells which. A block that a frame holds is not read.
     pub fn bring_in<D: Disk>(
         &mut self,
         shape: &Shape,
@@ -246,7 +262,7 @@ impl Frames {
         blocks: &BlockMap,
         lane: Lane,
         window: &[Piece],
-    ) -> Result<(), Failed>
+    ) -> Result<[u32; 4], Failed>
         requires some { 0 < shape.now.block }
         requires block { shape.now.block ≡ block_of self.old.keeper }
         requires fits { bytes_needed shape.now.block shape.now.blocks shape.now.area ≤ (D.told disk.old).size }
@@ -257,52 +273,56 @@ impl Frames {
         requires addresses { HaveAddresses shape.now.block blocks.now.holders window.now }
         ensures made { HasRead (missing shape.now.block self.old.resident window.now) (D.told disk.old) (D.told disk.new) }
         ensures cause { IsErr result → HasRisen (D.told disk.old).faults (D.told disk.new).faults }
-        ensures ready { OnOk result (AreReady shape.now.block self.new.resident window.now (length window.now)) }
+        ensures found { IfOk result (λ found. AreFound shape.now.block self.new.resident window.now found (length window.now)) }
         ensures frames { IsBroughtIn shape.now.block window.now self.old self.new }
         ensures bytes { IsTrue (D.told disk.old).honest → (bytes : ℕ → ℕ → List ℕ) → AreOnDisk bytes shape.now (D.told disk.old).bytes blocks.now.holders → HoldsBytes bytes self.old → HoldsBytes bytes self.new }
     {
-        for stretch in window {
+        let addresses = addresses_of(blocks, window, shape.block);
+        let mut found = [0; 4];
+        for k in 0..window.len() {
+            let stretch = window[k];
             let b = Block {
                 file: stretch.file,
                 index: stretch.from / shape.block,
             };
-            self.ready(shape, disk, blocks, lane, window, b)?;
+            let frame = self.ready(shape, disk, lane, window, addresses[k], b)?;
+            found[k] = frame;
         }
-        Ok(())
-    }
-
-    // The parts of the frames that have the samples of a window.
-    fn parts_for(&self, alloc: Global, window: &[Piece], block: u32) -> Result<Vec<Part>, NoMemory>
-        requires some { 0 < block }
-        requires ready { AreReady block self.now.resident window.now (length window.now) }
-        ensures { IfOk result (λ parts. ArePartsOf block self.now.resident window.now parts.items) }
-    {
-        let mut parts = Vec::with_capacity(alloc, window.len())?;
-        for stretch in window {
-            let b = Block {
-                file: stretch.file,
-                index: stretch.from / block,
-            };
-            let Some(frame) = find_block(&self.resident, &b) else {
-                unreachable!()
-            };
-            parts.push(Part {
-                frame,
-                from: stretch.from % block,
-                len: stretch.len,
-            })?;
-        }
-        Ok(parts)
+        Ok(found)
     }
 }
 
+// The parts of these frames that have the samples of a window.
+fn parts_of(
+    alloc: Global,
+    window: &[Piece],
+    found: &[u32; 4],
+    block: u32,
+) -> Result<Vec<Part>, NoMemory>
+    requires some { 0 < block }
+    requires few { length window.now ≤ 4 }
+    ensures { (resident : List (Option BlockValue)) → AreFound block resident window.now found.now (length window.now) → IfOk result (λ parts. ArePartsOf block resident window.now parts.items) }
+{
+    let mut parts = Vec::with_capacity(alloc, window.len())?;
+    for k in 0..window.len() {
+        let stretch = window[k];
+        parts.push(Part {
+            frame: found[k],
+            from: stretch.from % block,
+            len: stretch.len,
+        })?;
+    }
+    Ok(parts)
+}
+
 impl Frames {
-    /// Hands out a lease of the samples of a window whose blocks are in frames. After `NoMemory` nothing changed.
+    /// Hands out a lease of the samples of a window whose blocks are in these frames. After `NoMemory` nothing changed.
     pub fn grant(
         &mut self,
         alloc: Global,
         lane: Lane,
         window: &[Piece],
+        found: &[u32; 4],
         block: u32,
     ) -> Result<Lease, NoMemory>
         requires some { 0 < block }
@@ -312,14 +332,14 @@ impl Frames {
         requires least { 1 ≤ length window.now }
         requires few { length window.now ≤ 4 }
         requires stretches { AreStretches block window.now }
-        requires ready { AreReady block self.old.resident window.now (length window.now) }
+        requires found { AreFound block self.old.resident window.now found.now (length window.now) }
         ensures lease { IfOk result (λ lease. IsLeaseOf self.old lane window.now lease) }
         ensures stage { OnOk result (IsOut (samples_in window.now) (stage_of self.new.keeper lane)) }
         ensures hint { OnOk result ((hint_of self.new.keeper lane ≡ 0) × (mark_of self.new.keeper lane ≡ false)) }
         ensures others { ChangesLaneAlone self.old self.new lane }
         ensures err { OnErr result (self.new ≡ self.old) }
     {
-        let parts = self.parts_for(alloc, window, block)?;
+        let parts = parts_of(alloc, window, found, block)?;
         let lease = self.keeper.grant(alloc, lane, &parts)?;
         self.readers[usize::from(lane.0)] = LeasedParts { parts };
         Ok(lease)

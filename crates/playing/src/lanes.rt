@@ -230,14 +230,11 @@ impl Lanes {
         let Ok(next) = self.next(alloc, shape.block, lane, more) else {
             return Err(Trouble::NoMemory);
         };
-        if self
-            .frames
-            .bring_in(shape, disk, blocks, lane, &next.window)
-            .is_err()
-        {
+        let window = &next.window;
+        let Ok(found) = self.frames.bring_in(shape, disk, blocks, lane, window) else {
             return Err(Trouble::Failed);
-        }
-        let Ok(lease) = self.frames.grant(alloc, lane, &next.window, shape.block) else {
+        };
+        let Ok(lease) = self.frames.grant(alloc, lane, window, &found, shape.block) else {
             return Err(Trouble::NoMemory);
         };
         self.queues.advance(lane, more);

@@ -1,5 +1,6 @@
+use Rattle.std.proofs.Common.{◌≡◌, length}
 use Rattle.playing.proofs.Bringing.{IsUnderway}
 use Rattle.playing.proofs.frames.Frames.bring_in.Given as goal
 
-abbrev pub invariant-loop-stretch : goal.invariant-loop-stretch
-invariant-loop-stretch g l = IsUnderway l.shape l.blocks.holders l.window l.stretch-index l.initial.self l.self (g.D.Disk.told l.initial.disk) (g.D.Disk.told l.disk)
+abbrev pub invariant-loop-k : goal.invariant-loop-k
+invariant-loop-k g l = (length l.found ≡ 4) × IsUnderway l.shape l.blocks.holders l.window l.found l.k l.initial.self l.self (g.D.Disk.told l.initial.disk) (g.D.Disk.told l.disk)

@@ -1,4 +1,4 @@
-use Rattle.std.proofs.Common.{◌≡◌, ◌∙◌, ◌≤◌, length, sym, ap, subst, arith, List, ℕ}
+use Rattle.std.proofs.Common.{◌≡◌, ◌∙◌, ◌≤◌, length, sym, ap, subst, arith, List, ℕ, Option}
 use Rattle.voice_units.specs.declared.pieces.Piece.{Piece}
 use Rattle.voice_units.specs.Spots.{samples_in}
 use Rattle.play_queue.specs.Queued.{lane_of}
@@ -6,12 +6,14 @@ use Rattle.playing.specs.Frames.{HoldsBytes, AreReady}
 use Rattle.frame_pool.specs.Pool.{stage_of}
 use Rattle.playing.specs.Windows.{AreStretches, IsOut}
 use Rattle.playing.specs.Lanes.{LanesState, next_window}
+use Rattle.playing.specs.declared.blocks.Block.{Block}
+use Rattle.playing.proofs.Bringing.{are_ready}
 use Rattle.playing.proofs.Laning.{heard_is, same_frames}
-use Rattle.playing.proofs.Sending.{can_send, sent_is, send_lanes, fits_in, advanced_low, advanced_some, of_no_err, sent_to, sent_to_seen, leased_samples, sent_queues}
+use Rattle.playing.proofs.Sending.{can_send, sent_is, send_lanes, fits_in, advanced_low, advanced_some, sent_to, sent_to_seen, leased_samples, sent_queues}
 use Rattle.playing.proofs.lanes.Lanes.send.Goals as goal
 
-pub returns-then-is_err-clause-bytes : goal.returns-then-is_err-clause-bytes
-returns-then-is_err-clause-bytes g c honest bytes there was = c.bring_in.ensures.bytes honest bytes there (subst (λ (s : LanesState). HoldsBytes bytes s.frames) (sym c.self.view_is) was)
+pub returns-in_default-bring_in-clause-bytes : goal.returns-in_default-bring_in-clause-bytes
+returns-in_default-bring_in-clause-bytes g c honest bytes there was = c.bring_in.ensures.bytes honest bytes there (subst (λ (s : LanesState). HoldsBytes bytes s.frames) (sym c.self.view_is) was)
 
 pub grant-requires-clause-least : goal.grant-requires-clause-least
 grant-requires-clause-least g c =
@@ -22,11 +24,6 @@ pub grant-requires-clause-stretches : goal.grant-requires-clause-stretches
 grant-requires-clause-stretches g c =
     let can = can_send c.args.shape.now.block c.args.more c.args.self.now _ c.args.lane c.self.view_is c.requires.least c.requires.lane c.requires.some c.requires.goes_on c.requires.rest in
     subst (AreStretches c.args.shape.now.block) (sym (c.deref-2.ensures.value ∙ c.in-Ok.ensures.window)) can.window.stretches
-
-pub grant-requires-clause-ready : goal.grant-requires-clause-ready
-grant-requires-clause-ready g c =
-    subst (λ (l : List Piece). AreReady c.args.shape.now.block c.bring_in.new.self.resident l (length l)) (c.deref.ensures.value ∙ sym c.deref-2.ensures.value)
-    (of_no_err c.bring_in.result (sym c.is_err.ensures.value ∙ c.if-is_err.false) c.bring_in.ensures.ready)
 
 pub returns-in_default-grant-clause-frames : goal.returns-in_default-grant-clause-frames
 returns-in_default-grant-clause-frames g c =
@@ -86,6 +83,13 @@ returns-clause-samples g c honest bytes there was =
     leased_samples bytes c.args.shape.now.block (next_window c.args.shape.now.block c.args.more (lane_of c.args.self.now.queues c.args.lane)) c.deref-2.result.now c.args.lane c.args.self.now _ c.bring_in.new.self c.in-Ok-grant.lease c.self.view_is (c.deref-2.ensures.value ∙ c.in-Ok.ensures.window) c.requires.block c.bring_in.ensures.frames.pool c.in-Ok-grant.ensures.lease
     (c.bring_in.ensures.bytes honest bytes there (subst (λ (s : LanesState). HoldsBytes bytes s.frames) (sym c.self.view_is) was))
 
-pub returns-then-is_err-clause-frames : goal.returns-then-is_err-clause-frames
-returns-then-is_err-clause-frames g c =
+pub returns-in_default-bring_in-clause-frames : goal.returns-in_default-bring_in-clause-frames
+returns-in_default-bring_in-clause-frames g c =
     sent_to_seen c.args.shape.now.block (next_window c.args.shape.now.block c.args.more (lane_of c.args.self.now.queues c.args.lane)) c.deref.result.now c.args.lane c.args.self.now _ c.bring_in.new.self c.bring_in.new.self c.self.view_is (c.deref.ensures.value ∙ c.in-Ok.ensures.window) c.bring_in.ensures.frames (same_frames c.bring_in.new.self c.args.lane)
+
+pub returns-clause-ready : goal.returns-clause-ready
+returns-clause-ready g c =
+    let w = c.deref.result.now in
+    subst (λ (l : List Piece). AreReady c.args.shape.now.block c.grant.new.self.resident l (length l)) (c.deref.ensures.value ∙ c.in-Ok.ensures.window)
+    (subst (λ (r : List (Option Block)). AreReady c.args.shape.now.block r w (length w)) (sym c.grant.ensures.others.resident)
+    (are_ready c.args.shape.now.block c.bring_in.new.self.resident w _ (length w) c.in-Ok-bring_in.ensures.found))
