@@ -16,6 +16,7 @@ pub mod Landed
 pub mod Making
 pub mod OnItsWay
 pub mod Filled
+pub mod Planned
 pub mod Played
 pub mod Pushed
 pub mod Queued

@@ -4,16 +4,20 @@
 --     IsReadyIn s next      a change that counts is ready in the tables of a store
 --     IsPlan journal s effect r plan      the change gets into the journal so; r is what is rebuilt after it
 --     CanGo journal going plan      the plan's bytes fit where they go
+--     place_of going plan, records_after going plan, form_after plan      what is in doubt as they go there;  the records once it has landed;  the form of their area
 use Rattle.std.specs.Prelude.{◌≡◌, ℕ, ◌+◌, ◌-◌, ◌≤◌, ◌<◌, ◌^◌, ◌||◌, ◌==◌, nat_le, cond, List, map, length, None, IsTrue}
 use Rattle.voice_units.specs.declared.shapes.Shape.{Shape}
 use Rattle.voice_units.specs.Spots.{Spot}
 use Rattle.voice_units.specs.declared.pieces.Piece.{Piece}
 use Rattle.voice_outside.specs.Disk.{Told}
-use Rattle.voice_journal.specs.Readings.{extent, framed_size}
+use Rattle.disk_areas.specs.Areas.{Journal}
+use Rattle.voice_journal.specs.Readings.{extent, framed_size, with_payload, switched}
 use Rattle.voice_model.specs.Samples.{Tagged}
 use Rattle.voice_model.specs.State.{State, Effect, LaneState}
 use Rattle.voice_model.specs.Changes.{changed, frame_size}
 use Rattle.voice_journal.specs.Places.{JournalValue}
+use Rattle.voice_journal.specs.declared.seats.Doubt.{Doubt}
+use Rattle.voice_journal.specs.declared.seats.Doubt.TheVariants.{Record, Area}
 use Rattle.voice_model.specs.Spelling.{spelling}
 use Rattle.voice_model.specs.Step.{reply_of}
 use Rattle.voice_model.specs.Replay.{Rebuilt, acted, recovered}
@@ -100,3 +104,18 @@ IsPlan journal s effect r (plans.Switch base) = FitsOther s effect × IsBaseOf j
 abbrev pub CanGo : JournalValue → Going → Plan → Type 0
 CanGo journal going plans.Append = journal.seat.gate + 5 + length (payload_in going) < journal.shape.area
 CanGo journal going (plans.Switch base) = (framed_size base.payloads + 17 ≤ journal.shape.area) × (journal.seat.epoch < 2 ^ 48)
+
+-- what is in doubt as they go there
+abbrev pub place_of : Going → Plan → Doubt
+place_of going plans.Append = Record (length (payload_in going))
+place_of going (plans.Switch base) = Area (16 + framed_size base.payloads)
+
+-- the records of the journal once it has landed
+abbrev pub records_after : Going → Plan → Journal → Journal
+records_after going plans.Append r = with_payload r (payload_in going)
+records_after going (plans.Switch base) r = switched r base.payloads
+
+-- the form of their area, from the one before
+abbrev pub form_after : Plan → ℕ → ℕ
+form_after plans.Append form = form
+form_after (plans.Switch base) form = base.form

@@ -1,9 +1,13 @@
 //! A change that is ready gets into the journal, and its call is entered.
 
-ghost use Rattle.std.specs.Prelude.{◌≡◌, ◌+◌, ◌≤◌, ◌<◌, ◌^◌, ◌++◌, ◌∷◌, [], ℕ, List, None, Some, length, vec_len, vec_capacity, IfOk};
+ghost use Rattle.std.specs.Prelude.{◌≡◌, ◌+◌, ◌≤◌, ◌<◌, ◌++◌, ◌∷◌, [], ℕ, List, None, Some, vec_len, vec_capacity, IsTrue, IfOk, IsErrOf, OnOk};
 ghost use Rattle.voice_units.specs.declared.Piece.{Piece};
 ghost use Rattle.voice_outside.specs.Counters.{HasRisen};
-ghost use Rattle.voice_journal.specs.Readings.{extent, framed_size};
+ghost use Rattle.voice_outside.specs.Disk.{MakesAtMost, Now, Leaves};
+ghost use Rattle.disk_areas.specs.Areas.{Journal as Reading};
+ghost use Rattle.voice_journal.specs.Readings.{extent, SameElsewhere, Without};
+ghost use Rattle.voice_journal.specs.Places.{landed};
+ghost use Rattle.voice_journal.specs.Stands.{Stands, StandsInDoubt};
 ghost use Rattle.voice_model.specs.Samples.{Tagged};
 ghost use Rattle.voice_model.specs.State.{State, Effect};
 ghost use Rattle.voice_model.specs.Replay.{Rebuilt, acted};
@@ -15,10 +19,10 @@ ghost use Rattle.next_changes.specs.Next.{IsNext};
 ghost use Rattle.voice_blocks.specs.Holders.{Holders};
 ghost use Rattle.playing.specs.Frames.{HoldsBytes};
 ghost use Rattle.lane_calls.specs.Answers.{HaveForgotten};
+ghost use Rattle.crash_laws.specs.Calls.{StaysWithin};
 ghost use Rattle.voice_store.specs.Stood.{Stood, last_of};
-ghost use Rattle.voice_store.specs.Ways.{FitsBehind, FitsOther};
-ghost use Rattle.voice_store.specs.Trying.{IsBaseOf, Trying, IsPlan, CanGo};
-ghost use Rattle.voice_store.specs.Going.{payload_in, counted_as, IsGoing, IsGoingIn, IsCounted, closed_in};
+ghost use Rattle.voice_store.specs.Trying.{IsBaseOf, Trying, IsPlan, CanGo, place_of, records_after, form_after};
+ghost use Rattle.voice_store.specs.Going.{counted_as, IsGoing, IsGoingIn, IsCounted, closed_in};
 ghost use Rattle.voice_store.specs.DeviceCalls.{plan_calls};
 ghost use Rattle.voice_store.specs.Facts.{Goes, IsFault, entry_of};
 ghost use Rattle.voice_store.specs.Residing.{KeepsUsed};
@@ -31,7 +35,7 @@ use crash_laws::laws::foundations;
 use next_changes::perform;
 use recovery::Parts;
 use std::alloc::Global;
-use voice_journal::{Fault, Payloads};
+use voice_journal::{Fault, Journal, Payloads};
 use voice_model::{Call, Reply, Why};
 use voice_outside::Disk;
 use voice_units::{NoMemory, Shape};
@@ -63,6 +67,48 @@ fn base_of(alloc: Global, shape: &Shape, parts: &Parts) -> Result<Base, NoMemory
         form: 1,
         payloads: compact_parts(alloc, 1, parts)?,
     })
+}
+
+impl Plan {
+    // The form of the area once the change has landed.
+    fn form_after(&self, form: u8) -> u8
+        ensures { result ≡ form_after self.now form }
+    {
+        match self {
+            Plan::Append => form,
+            Plan::Switch(base) => base.form,
+        }
+    }
+}
+
+// Puts a change into the journal, as it is planned.
+fn put<D: Disk>(
+    journal: &mut Journal,
+    disk: &mut D,
+    going: &Going,
+    plan: &Plan,
+) -> Result<(), Fault>
+    requires size { extent journal.old.shape ≤ (D.told disk.old).size }
+    requires can { CanGo journal.old going.now plan.now }
+    requires sure { journal.old.doubt ≡ None }
+    ensures made { MakesAtMost 6 (D.told disk.old) (D.told disk.new) result }
+    ensures calls { (D.told disk.new).calls ≤ (D.told disk.old).calls + plan_calls plan.now }
+    ensures ok_state { OnOk result (journal.new ≡ record journal.old { seat = landed journal.old.seat (place_of going.now plan.now); is_closed = journal.new.is_closed }) }
+    ensures before_state { IsErrOf result Fault.Before → journal.new ≡ record journal.old { is_closed = journal.new.is_closed } }
+    ensures doubt_state { IsErrOf result Fault.Doubt → journal.new ≡ record journal.old { doubt = Some (place_of going.now plan.now); is_closed = journal.new.is_closed } }
+    ensures ok { IsTrue (D.told disk.old).honest → (r : Reading) → Stands journal.old (D.told disk.old) r
+        → OnOk result (Stands journal.new (D.told disk.new) (records_after going.now plan.now r) × Now (D.told disk.new) (SameElsewhere r.shape (D.told disk.old).bytes)) }
+    ensures before { IsTrue (D.told disk.old).honest → (r : Reading) → Stands journal.old (D.told disk.old) r
+        → IsErrOf result Fault.Before → Stands journal.new (D.told disk.new) r × Leaves (D.told disk.old) (D.told disk.new) (Without r (D.told disk.old)) }
+    ensures doubt { IsTrue (D.told disk.old).honest → (r : Reading) → Stands journal.old (D.told disk.old) r
+        → IsErrOf result Fault.Doubt → StandsInDoubt journal.new (D.told disk.new) r (records_after going.now plan.now r) × Now (D.told disk.new) (SameElsewhere r.shape (D.told disk.old).bytes) }
+    ensures crash { IsTrue (D.told disk.old).honest → StaysWithin (records_after going.now plan.now) journal.old (D.told disk.old) (D.told disk.new) }
+    ensures bytes { IsTrue (D.told disk.old).honest → SameElsewhere journal.old.shape (D.told disk.old).bytes (D.told disk.new).bytes }
+{
+    match plan {
+        Plan::Append => journal.append(disk, going.payload()),
+        Plan::Switch(base) => journal.switch(disk, &base.payloads),
+    }
 }
 
 impl Inside {
@@ -146,82 +192,6 @@ impl Inside {
         Reply::No(Why::InDoubt)
     }
 
-    // Appends a change, where it fits behind the other records. The reply comes twice: one is entered, and one is answered.
-    fn append<D: Disk>(
-        &mut self,
-        disk: &mut D,
-        caller: u16,
-        call: Call,
-        replies: (Reply, Reply),
-        going: Going,
-    ) -> Reply
-        requires size { extent self.old.journal.shape ≤ (D.told disk.old).size }
-        requires fits { self.old.journal.seat.gate + 5 + length (payload_in going) < self.old.journal.shape.area }
-        requires twice { replies.1 ≡ replies.0 }
-        requires plain { ¬ IsFault replies.1 }
-        requires sure { self.old.journal.doubt ≡ None }
-        requires ready { IsGoingIn self.old.journal.shape self.old.parts going }
-        requires room { vec_len self.old.history < vec_capacity self.old.history }
-        ensures goes { Goes 4 (D.told disk.old) (D.told disk.new) }
-        ensures cause { IsFault result → HasRisen (D.told disk.old).faults (D.told disk.new).faults }
-        ensures items { self.new.history.items ≡ self.old.history.items ++ entry_of caller call result (D.told disk.new).calls ∷ [] }
-        ensures tapes { self.new.tapes ≡ self.old.tapes }
-        ensures pool { self.new.lanes.frames.keeper.pool ≡ self.old.lanes.frames.keeper.pool }
-        ensures frames { KeepsUsed self.old self.new }
-        ensures stood { (first : State) (t0 : ℕ) (b : Rebuilt) (c : Change) (effect : Effect Tagged) → Trying first t0 (D.told disk.old) self.old b going c effect caller call replies.0 → FitsBehind (last_of first self.old) effect → Stood first t0 (D.told disk.new) self.new }
-    {
-        foundations();
-        match self.journal.append(disk, going.payload()) {
-            Ok(()) => {
-                self.done(disk, caller, call, replies.0, going);
-                replies.1
-            }
-            Err(Fault::Before) => self.failed(disk, caller, call, going),
-            Err(Fault::Doubt) => {
-                let form = self.parts.form;
-                self.wait(disk, caller, call, going, form)
-            }
-        }
-    }
-
-    // Writes a base of the state after a change, and makes its area current. The reply comes twice.
-    fn switch<D: Disk>(
-        &mut self,
-        disk: &mut D,
-        caller: u16,
-        call: Call,
-        replies: (Reply, Reply),
-        going: Going,
-        base: &Base,
-    ) -> Reply
-        requires size { extent self.old.journal.shape ≤ (D.told disk.old).size }
-        requires fits { framed_size base.now.payloads + 17 ≤ self.old.journal.shape.area }
-        requires twice { replies.1 ≡ replies.0 }
-        requires plain { ¬ IsFault replies.1 }
-        requires epoch { self.old.journal.seat.epoch < 2 ^ 48 }
-        requires sure { self.old.journal.doubt ≡ None }
-        requires ready { IsGoingIn self.old.journal.shape self.old.parts going }
-        requires room { vec_len self.old.history < vec_capacity self.old.history }
-        ensures goes { Goes 6 (D.told disk.old) (D.told disk.new) }
-        ensures cause { IsFault result → HasRisen (D.told disk.old).faults (D.told disk.new).faults }
-        ensures items { self.new.history.items ≡ self.old.history.items ++ entry_of caller call result (D.told disk.new).calls ∷ [] }
-        ensures tapes { self.new.tapes ≡ self.old.tapes }
-        ensures pool { self.new.lanes.frames.keeper.pool ≡ self.old.lanes.frames.keeper.pool }
-        ensures frames { KeepsUsed self.old self.new }
-        ensures stood { (first : State) (t0 : ℕ) (b : Rebuilt) (c : Change) (effect : Effect Tagged) → Trying first t0 (D.told disk.old) self.old b going c effect caller call replies.0 → FitsOther (last_of first self.old) effect → IsBaseOf self.old.journal.shape (acted b c) base.now → Stood first t0 (D.told disk.new) self.new }
-    {
-        foundations();
-        match self.journal.switch(disk, &base.payloads) {
-            Ok(()) => {
-                self.done(disk, caller, call, replies.0, going);
-                self.parts.form = base.form;
-                replies.1
-            }
-            Err(Fault::Before) => self.failed(disk, caller, call, going),
-            Err(Fault::Doubt) => self.wait(disk, caller, call, going, base.form),
-        }
-    }
-
     /// Does a change that is ready, and enters its call. The reply comes twice: one is entered, and one is answered.
     pub(crate) fn commit<D: Disk>(
         &mut self,
@@ -248,9 +218,16 @@ impl Inside {
         ensures frames { KeepsUsed self.old self.new }
         ensures stood { (first : State) (t0 : ℕ) (b : Rebuilt) (c : Change) (effect : Effect Tagged) → Trying first t0 (D.told disk.old) self.old b going c effect caller call replies.0 → IsPlan self.old.journal (last_of first self.old) effect (acted b c) plan → Stood first t0 (D.told disk.new) self.new }
     {
-        match plan {
-            Plan::Append => self.append(disk, caller, call, replies, going),
-            Plan::Switch(base) => self.switch(disk, caller, call, replies, going, &base),
+        foundations();
+        let form = plan.form_after(self.parts.form);
+        match put(&mut self.journal, disk, &going, &plan) {
+            Ok(()) => {
+                self.done(disk, caller, call, replies.0, going);
+                self.parts.form = form;
+                replies.1
+            }
+            Err(Fault::Before) => self.failed(disk, caller, call, going),
+            Err(Fault::Doubt) => self.wait(disk, caller, call, going, form),
         }
     }
 }
