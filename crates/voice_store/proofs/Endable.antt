@@ -1,22 +1,20 @@
 -- An End that only the journal may refuse: what it takes there, and that it has blocks.
-use Rattle.std.proofs.Common.{◌≡◌, inl, ℕ, ◌+◌, ◌*◌, ◌≤◌, ◌^◌, ◌==◌, true, false, cond, List, [], ◌∷◌, length, Option, Some, None, refl, sym, ◌∙◌, ap, subst}
+use Rattle.std.proofs.Common.{◌≡◌, inl, ℕ, ◌≤◌, ◌^◌, true, false, List, [], ◌∷◌, length, Option, Some, None, refl, sym, ◌∙◌, ap, subst}
 use Rattle.std.specs.Prelude.{is_none, nat_lt}
 use Rattle.std.proofs.lemmas.Bool.{ltb-false}
 use Rattle.voice_units.specs.declared.shapes.Shape.{Shape}
-use Rattle.voice_units.specs.declared.pieces.Piece.{Piece}
-use Rattle.voice_units.specs.Spots.{Spot, spots_from, pieces_of}
+use Rattle.voice_units.specs.Spots.{spots_from, pieces_of}
 use Rattle.voice_units.specs.Blocks.{blocks_for}
 use Rattle.voice_outside.specs.Disk.{Told}
-use Rattle.voice_model.specs.Samples.{Tagged, spot_of}
-use Rattle.voice_model.specs.State.{State, Durable, Effect, lane_at}
-use Rattle.voice_model.specs.Changes.{frame_size, base_size, changed, address_size, taking_of}
-use Rattle.voice_model.specs.Replay.{durable_by, all_differ}
+use Rattle.voice_model.specs.Samples.{Tagged}
+use Rattle.voice_model.specs.State.{State, Effect, lane_at}
+use Rattle.voice_model.specs.Changes.{taking_of}
+use Rattle.voice_model.specs.Replay.{all_differ}
 use Rattle.voice_model.specs.Step.{refusal, is_journal_full, journal_full, when, last_rope, if_no_lane, if_not_recording, if_spent}
 use Rattle.voice_model.specs.declared.calls.Call.TheVariants as calls
 use Rattle.voice_model.specs.declared.calls.Why.{Why}
 use Rattle.voice_model.specs.declared.calls.Why.TheVariants as why
 use Rattle.voice_model.proofs.FitsOfCalls.{AllNone, all_none, not_when}
-use Rattle.recovery.specs.Shown.{Shows}
 use Rattle.running_tables.specs.Running.{Runs, taken}
 use Rattle.recovery.specs.declared.parts.Parts.{Parts}
 use Rattle.next_ropes.specs.Addresses.{KeepsAddresses}
@@ -27,12 +25,12 @@ use Rattle.edits.proofs.Refusals.{journal_last}
 use Rattle.voice_store.specs.declared.inside.Inside.{Inside}
 use Rattle.voice_store.specs.declared.ways.Way.{Way}
 use Rattle.voice_store.specs.declared.ways.Way.TheVariants as ways
-use Rattle.voice_store.specs.Stood.{IsSeated, Stood, last_of, tapes_of}
+use Rattle.voice_store.specs.Stood.{ShowsState, Stood, last_of, tapes_of}
 use Rattle.voice_store.specs.Ways.{IsWay}
 use Rattle.voice_store.specs.Ends.{EndsRecording, EndsSo, HoldsEnding, ended_by}
-use Rattle.voice_store.proofs.Kept.{is_sure, same_number, base_now, upright_by, plays_by}
+use Rattle.voice_store.proofs.Kept.{is_sure, same_number, not_full, upright_by, plays_by}
+use Rattle.voice_store.proofs.Spare.{shows_state}
 use Rattle.voice_store.proofs.Closing.{taken_at, open_blocks}
-use Rattle.voice_store.proofs.Sized.{frame_sized, need_sized}
 
 -- where nothing is in doubt, the next number of the tables is that of the state
 pub next_same : (first : State) (t0 : ℕ) (disk : Told) (s : Inside) → Stood first t0 disk s → s.doubt ≡ None → s.parts.next ≡ (last_of first s).next
@@ -75,17 +73,8 @@ module _ (first : State) (t0 : ℕ) (disk : Told) (s : Inside) (lane : ℕ) (h :
   pub blocks_now : (shape : Shape) (len : ℕ) → shape ≡ s.journal.shape → len ≡ length bytes → taken h.stood.takings lane ≡ blocks_for shape.block len
   blocks_now shape len same many = blocks_taken ∙ ap (blocks_for s.journal.shape.block) (sym many) ∙ ap (λ (x : Shape). blocks_for x.block len) (sym same)
 
-  -- how the journal takes it
-  pub ending_goes : (len frame base more : ℕ) (way : Way) → len ≡ length bytes → frame ≡ 22 + address_size s.parts.form * blocks_for s.journal.shape.block len
-      → ((held : List (List Piece)) (d : Durable Spot) (fill : Spot → Tagged) → Shows held s.parts d → ((x : Spot) → spot_of (fill x) ≡ x) → base ≡ base_size s.parts.form (durable_by fill d))
-      → more ≡ 24 + cond (s.parts.form == 2) 1 0 + cond (len == 0) 0 (34 + (4 + address_size s.parts.form) * blocks_for s.journal.shape.block len)
-      → ((t : State) (e : Effect Tagged) → IsSeated s.journal t → base ≡ base_size t.form t.kept → frame ≡ frame_size t.form t.kept.shape.block e → base + more ≡ base_size t.form (changed t.form t.kept e) → IsWay t e way)
-      → IsWay last effect way
-  ending_goes len frame base more way many framed told grows goes =
-      let now = base_now first t0 disk s h.stood h.sure base told in
-      goes last effect h.stood.upright.seated now
-      (framed ∙ frame_sized first t0 disk s h.stood h.sure bytes len (sym many))
-      (need_sized first t0 disk s h.stood h.sure bytes len (sym many) base more now grows)
+  pub shown : ShowsState s.parts last
+  shown = shows_state first t0 disk s h.stood (is_sure first t0 disk s h.stood h.sure).in_state
 
   -- the journal refuses it
   pub ending_full : (need left : ℕ) → IsWay last effect (ways.Full need left) → refusal last (tapes_of s) (calls.End lane) ≡ Some (why.JournalFull need left)
@@ -95,8 +84,8 @@ module _ (first : State) (t0 : ℕ) (disk : Told) (s : Inside) (lane : ℕ) (h :
   pub ending_free : is_journal_full last effect ≡ false → refusal last (tapes_of s) (calls.End lane) ≡ None
   ending_free spare = journal_last.late last (tapes_of s) (calls.End lane) h.unrefused ∙ ap (λ b. when b (journal_full last effect)) spare
 
-  pub ends_so : (way : Way) → IsWay last effect way → is_journal_full last effect ≡ false → EndsSo first t0 disk s lane way
-  ends_so way goes spare = record { ends = h; goes = goes; free = spare }
+  pub ends_so : (way : Way) → IsWay last effect way → ((need left : ℕ) → way ≡ ways.Full need left → ⊥) → EndsSo first t0 disk s lane way
+  ends_so way goes other = record { ends = h; goes = goes; free = not_full last effect way goes other }
 
 -- over other tables that show the same, with the same addresses
 abbrev pub moved : (first : State) (t0 : ℕ) (disk : Told) (s : Inside) (lane : ℕ) (h : EndsRecording first t0 disk s lane) (parts : Parts) → Runs h.stood.held [] h.stood.takings parts h.stood.b → KeepsAddresses s.parts.blocks.holders parts.blocks.holders

@@ -50,8 +50,9 @@ use Rattle.next_ropes.specs.declared.NextRope.{NextRope}
 use Rattle.voice_store.specs.declared.inside.Inside.{Inside}
 use Rattle.voice_store.specs.declared.ways.Way.{Way}
 use Rattle.voice_store.specs.declared.ways.Way.TheVariants as ways
-use Rattle.voice_store.specs.Stood.{last_of, tapes_of, Upright, IsSure, IsUnsure, Plays, Stood}
+use Rattle.voice_store.specs.Stood.{last_of, tapes_of, Fills, Upright, IsSure, IsUnsure, Plays, Stood}
 use Rattle.voice_store.specs.Ways.{IsWay}
+use Rattle.voice_store.specs.Going.{IsGoingIn}
 use Rattle.voice_store.specs.Trying.{Trying}
 use Rattle.voice_store.specs.Keeping.{MakesRope, HasWay}
 use Rattle.voice_store.proofs.Filled.{still_has, takes_same, stays_same}
@@ -69,6 +70,12 @@ some_none x e = wrong (sym (ap is_some e))
 -- few passages are held
 pub stood_few : (first : State) (t0 : ℕ) (disk : Told) (s : Inside) (stood : Stood first t0 disk s) → length stood.held ≤ most_held
 stood_few first t0 disk s stood = few_held stood.held stood.takings s.journal.shape.block (last_of first s) stood.holding stood.upright.valid
+
+-- the base of tables that show a state is as long as that of the state
+pub base_shown : (held : List (List Piece)) (parts : Parts) (b : Rebuilt) (fill : Spot → Tagged) (t : State) → parts.form ≡ t.form → Shows held parts b.kept → Fills fill b t → (size : ℕ)
+    → ((held : List (List Piece)) (d : Durable Spot) (fill : Spot → Tagged) → Shows held parts d → ((x : Spot) → spot_of (fill x) ≡ x) → size ≡ base_size parts.form (durable_by fill d)) → size ≡ base_size t.form t.kept
+base_shown held parts b fill t form shows fills size told =
+    told held b.kept fill shows fills.spots ∙ ap (λ f. base_size f (durable_by fill b.kept)) form ∙ ap (base_size t.form) fills.kept
 
 module _ (first : State) (t0 : ℕ) (disk : Told) (s : Inside) (stood : Stood first t0 disk s) (none : s.doubt ≡ None) where
   pub is_sure : IsSure stood.held stood.takings s stood.b stood.after (last_of first s)
@@ -121,9 +128,13 @@ module _ (first : State) (t0 : ℕ) (disk : Told) (s : Inside) (stood : Stood fi
   -- the base of the tables is as long as that of the state
   pub base_now : (size : ℕ) → ((held : List (List Piece)) (d : Durable Spot) (fill : Spot → Tagged) → Shows held s.parts d → ((x : Spot) → spot_of (fill x) ≡ x) → size ≡ base_size s.parts.form (durable_by fill d))
       → size ≡ base_size (last_of first s).form (last_of first s).kept
-  base_now size told =
-      told stood.held stood.b.kept stood.fill is_sure.tables.kept stood.upright.fills.spots
-      ∙ ap (λ f. base_size f (durable_by stood.fill stood.b.kept)) same_form ∙ ap (base_size (last_of first s).form) stood.upright.fills.kept
+  base_now size told = base_shown stood.held s.parts stood.b stood.fill (last_of first s) same_form is_sure.tables.kept stood.upright.fills size told
+
+-- a change that gets into the journal is not refused there
+pub not_full : (s : State) (effect : Effect Tagged) (way : Way) → IsWay s effect way → ((need left : ℕ) → way ≡ ways.Full need left → ⊥) → is_journal_full s effect ≡ false
+not_full s effect (ways.Full need left) is other = absurd (other need left refl)
+not_full s effect ways.Append is other = is.free
+not_full s effect ways.Switch is other = is.free
 
 -- ---- an edit, before the journal is asked
 
@@ -152,8 +163,8 @@ module _ (first : State) (t0 : ℕ) (disk : Told) (s : Inside) (call : Call) (pi
   pub refused_not : is_journal_full last effect ≡ false → refusal last (tapes_of s) call ≡ None
   refused_not free = journal_last.late last (tapes_of s) call h.rope.unrefused ∙ ap (if_full last) h.rope.effect ∙ ap (λ b. when b (journal_full last effect)) free
 
-  pub has_way : (way : Way) → IsWay last effect way → is_journal_full last effect ≡ false → HasWay first t0 disk s call pieces way
-  has_way way ways free = record { makes = h; goes = ways; free = free }
+  pub has_way : (way : Way) → IsWay last effect way → ((need left : ℕ) → way ≡ ways.Full need left → ⊥) → HasWay first t0 disk s call pieces way
+  has_way way goes other = record { makes = h; goes = goes; free = not_full last effect way goes other }
 
 -- ---- an edit that the journal does not refuse
 
@@ -215,6 +226,10 @@ module _ (first : State) (t0 : ℕ) (disk : Told) (s : Inside) (call : Call) (pi
   -- few passages are held
   pub held_few : length h.makes.stood.held ≤ most_held
   held_few = stood_few first t0 disk s h.makes.stood
+
+  -- its rope is ready to go
+  pub edit_going : (parts : Parts) (next : NextRope) → IsReady h.makes.stood.held h.makes.stood.takings parts b next (kinds.Edited b.next pieces) → IsGoingIn s.journal.shape parts (goings.Change (changes.Rope next))
+  edit_going parts next ready = record { held = h.makes.stood.held; takings = h.makes.stood.takings; more = h.makes.stood.takings; b = b; c = kinds.Edited b.next pieces; ready = (refl, ready); in_shape = same_shape first t0 disk s h.makes.stood h.makes.sure }
 
   pub the_change : kinds.Edited b.next pieces ≡ change_of b.form [] made
   the_change = ap (λ n. kinds.Edited n pieces) (same_number first t0 disk s h.makes.stood h.makes.sure) ∙ ap (kinds.Edited now.next) rope.same

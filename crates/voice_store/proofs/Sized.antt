@@ -1,24 +1,25 @@
 -- What a recording of any bytes takes in the journal.
-use Rattle.std.proofs.Common.{◌≡◌, ℕ, zero, suc, ◌+◌, ◌*◌, ◌≤◌, ◌==◌, Bool, true, false, cond, List, [], ◌∷◌, length, None, refl, sym, ◌∙◌, ap, arith}
+use Rattle.std.proofs.Common.{◌≡◌, ℕ, zero, suc, ◌+◌, ◌*◌, ◌≤◌, ◌==◌, Bool, true, false, cond, List, [], ◌∷◌, length, refl, sym, ◌∙◌, ap, arith}
 use Rattle.voice_units.specs.declared.shapes.Shape.{Shape}
 use Rattle.voice_units.specs.declared.pieces.Piece.{Piece}
-use Rattle.voice_units.specs.Spots.{spots_from, pieces_of, samples_in}
+use Rattle.voice_units.specs.Spots.{Spot, spots_from, pieces_of, samples_in}
 use Rattle.voice_units.proofs.PiecesOfRopes.{length-spots_from}
 use Rattle.voice_units.proofs.Counts.{one_piece}
 use Rattle.voice_units.specs.Blocks.{blocks_for}
-use Rattle.voice_outside.specs.Disk.{Told}
-use Rattle.voice_model.specs.Samples.{Tagged, recording, pieces_in}
-use Rattle.voice_model.specs.State.{State, Effect}
-use Rattle.voice_model.specs.State.Effect.{Recorded}
+use Rattle.voice_model.specs.Samples.{Tagged, spot_of, recording, pieces_in}
+use Rattle.voice_model.specs.State.{State, Durable, Effect}
 use Rattle.voice_model.specs.Changes.{frame_size, base_size, changed, address_size, rope_size}
+use Rattle.voice_model.specs.Replay.{durable_by}
 use Rattle.voice_model.proofs.FitsOfCalls.{recorded_length, recorded_spots}
+use Rattle.recovery.specs.Shown.{Shows}
 use Rattle.edits.proofs.Seen.{places_length}
 use Rattle.fillings.specs.Laws.{new_rope, blocks_size}
 use Rattle.fillings.proofs.RecordedBlocks.{some_samples}
 use Rattle.fillings.proofs.Sizes.{recorded_size}
 use Rattle.voice_store.specs.declared.inside.Inside.{Inside}
-use Rattle.voice_store.specs.Stood.{Stood, last_of}
-use Rattle.voice_store.proofs.Kept.{is_sure, same_form}
+use Rattle.voice_store.specs.Stood.{IsSeated, ShowsState}
+use Rattle.voice_store.specs.Keeping.{recording_of}
+use Rattle.voice_store.proofs.Kept.{base_shown}
 use Rattle.voice_store.proofs.Taking.{below_next}
 
 -- the samples of a recording are one piece, where there are any
@@ -30,30 +31,32 @@ one_run file from (suc n) = by (pieces_of (spots_from file from (suc n))) (place
     by [] some few = absurd (omega (arith, some))
     by (p ∷ ps) some few = omega (arith, few)
 
-module _ (first : State) (t0 : ℕ) (disk : Told) (s : Inside) (stood : Stood first t0 disk s) (none : s.doubt ≡ None) (bytes : List ℕ) (len : ℕ) (many : length bytes ≡ len) where
-  abbrev last : State
-  last = last_of first s
-
+-- by tables that show the state
+module _ (s : Inside) (last : State) (seated : IsSeated s.journal last) (shows : ShowsState s.parts last) (bytes : List ℕ) (len : ℕ) (many : length bytes ≡ len) where
   abbrev effect : Effect Tagged
-  effect = Recorded last.next (recording last.next bytes)
+  effect = recording_of last bytes
 
-  pub block_is : last.kept.shape.block ≡ s.journal.shape.block
-  block_is = ap (λ (x : Shape). x.block) stood.upright.seated.shape
+  block_is : last.kept.shape.block ≡ s.journal.shape.block
+  block_is = ap (λ (x : Shape). x.block) seated.shape
 
-  frame_of : (form : ℕ) → form ≡ last.form → 22 + address_size form * blocks_for s.journal.shape.block len ≡ frame_size last.form last.kept.shape.block effect
-  frame_of form is =
+  form_is : s.parts.form ≡ last.form
+  form_is = shows.tables.in_form ∙ shows.fills.form
+
+  -- the base of the tables is as long as that of the state
+  pub base_sized : (size : ℕ) → ((held : List (List Piece)) (d : Durable Spot) (fill : Spot → Tagged) → Shows held s.parts d → ((x : Spot) → spot_of (fill x) ≡ x) → size ≡ base_size s.parts.form (durable_by fill d)) → size ≡ base_size last.form last.kept
+  base_sized size told = base_shown shows.held s.parts shows.rebuilt shows.fill last form_is shows.tables.kept shows.fills size told
+
+  -- its record takes so many bytes
+  pub frame_sized : 22 + address_size s.parts.form * blocks_for s.journal.shape.block len ≡ frame_size last.form last.kept.shape.block effect
+  frame_sized =
       let blocks : blocks_for s.journal.shape.block len ≡ blocks_for last.kept.shape.block (length (recording last.next bytes)) =
       ap (λ n. blocks_for n len) (sym block_is) ∙ ap (blocks_for last.kept.shape.block) (sym (recorded_length last.next 0 bytes ∙ many)) in
-      ap (λ f. 22 + address_size f * blocks_for s.journal.shape.block len) is
+      ap (λ f. 22 + address_size f * blocks_for s.journal.shape.block len) form_is
       ∙ ap (λ n. 22 + address_size last.form * n) blocks
       ∙ spread (address_size last.form * blocks_for last.kept.shape.block (length (recording last.next bytes)))
     where
       spread : (x : ℕ) → 22 + x ≡ 5 + (17 + x)
       spread x = omega arith
-
-  -- its record takes so many bytes
-  pub frame_sized : 22 + address_size s.parts.form * blocks_for s.journal.shape.block len ≡ frame_size last.form last.kept.shape.block effect
-  frame_sized = frame_of s.parts.form (same_form first t0 disk s stood none)
 
   pieces_are : length (pieces_in (recording last.next bytes)) ≡ cond (len == 0) 0 1
   pieces_are =
@@ -66,14 +69,12 @@ module _ (first : State) (t0 : ℕ) (disk : Told) (s : Inside) (stood : Stood fi
   -- and it adds so many to a base
   pub need_sized : (now n : ℕ) → now ≡ base_size last.form last.kept → n ≡ 24 + cond (s.parts.form == 2) 1 0 + cond (len == 0) 0 (34 + (4 + address_size s.parts.form) * blocks_for s.journal.shape.block len) → now + n ≡ base_size last.form (changed last.form last.kept effect)
   need_sized now n base is =
-      let up = stood.upright in
-      let sure = is_sure first t0 disk s stood none in
-      let size = recorded_size last.form last.kept last.next bytes (below_next stood.fill up.fills.spots stood.b last.kept sure.tables.placed up.fills.kept) in
+      let size = recorded_size last.form last.kept last.next bytes (below_next shows.fill shows.fills.spots shows.rebuilt last.kept shows.tables.placed shows.fills.kept) in
       let rope : rope_size last.form (new_rope last.kept last.next (recording last.next bytes)) ≡ 24 + cond (last.form == 2) 1 0 + 16 * cond (len == 0) 0 1 =
       ap (λ m. 24 + cond (last.form == 2) 1 0 + 16 * m) pieces_are in
       let blocks : blocks_size last.form last.kept.shape (length bytes) ≡ cond (len == 0) 0 (18 + (4 + address_size last.form) * blocks_for s.journal.shape.block len) =
       ap (λ m. blocks_size last.form last.kept.shape m) many ∙ ap (λ m. cond (len == 0) 0 (18 + (4 + address_size last.form) * blocks_for m len)) block_is in
-      let more = is ∙ ap (λ f. 24 + cond (f == 2) 1 0 + cond (len == 0) 0 (34 + (4 + address_size f) * blocks_for s.journal.shape.block len)) (same_form first t0 disk s stood none)
+      let more = is ∙ ap (λ f. 24 + cond (f == 2) 1 0 + cond (len == 0) 0 (34 + (4 + address_size f) * blocks_for s.journal.shape.block len)) form_is
       ∙ grown last.form (len == 0) (blocks_for s.journal.shape.block len) in
       sums _ _ _ _ _ _ _ base more rope blocks ∙ sym size
     where

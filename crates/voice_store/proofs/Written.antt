@@ -60,6 +60,7 @@ use Rattle.voice_store.specs.Stood.{last_of, tapes_of, Upright, IsSure, Plays, S
 use Rattle.voice_store.proofs.Filled.{placed_each, next_only, unwritten_filled, written_filled, elsewhere_whole, takes_same}
 use Rattle.voice_store.proofs.Refused.{wrong}
 use Rattle.voice_store.specs.Facts.{MayCommit, entry_of}
+use Rattle.voice_store.specs.Going.{IsGoingIn}
 use Rattle.voice_store.specs.Trying.{IsPlan, Trying}
 use Rattle.voice_store.specs.Keeping.{HasRoom, HoldsRecording, recorded_by}
 use Rattle.voice_store.specs.declared.ways.Way.{Way}
@@ -142,6 +143,9 @@ module _ (first : State) (t0 : ℕ) (old : Told) (s : Inside) (take : Take) (nex
 
   pub in_shape : b.shape ≡ s.journal.shape
   in_shape = same_shape first t0 old then h.makes.stood h.makes.sure
+
+  pub recording_going : IsGoingIn s.journal.shape s.parts (goings.Change (changes.Rope next))
+  recording_going = record { held = h.makes.stood.held; takings = h.makes.stood.takings; more = h.makes.stood.takings; b = b; c = change; ready = (refl, h.ready); in_shape = in_shape }
 
   number : b.next ≡ last.next
   number = same_number first t0 old then h.makes.stood h.makes.sure

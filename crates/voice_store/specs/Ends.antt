@@ -10,9 +10,8 @@
 use Rattle.std.specs.Prelude.{◌≡◌, ℕ, ◌/◌, true, false, List, drop, length, None}
 use Rattle.voice_units.specs.Spots.{spots_from, pieces_of}
 use Rattle.voice_outside.specs.Disk.{Told}
-use Rattle.voice_model.specs.Samples.{Tagged, recording}
+use Rattle.voice_model.specs.Samples.{Tagged}
 use Rattle.voice_model.specs.State.{State, Effect}
-use Rattle.voice_model.specs.State.Effect.{Recorded}
 use Rattle.voice_model.specs.Changes.{taking_of}
 use Rattle.voice_model.specs.Replay.{all_differ, acted}
 use Rattle.voice_model.specs.Step.{first_of, is_journal_full}
@@ -28,11 +27,12 @@ use Rattle.voice_store.specs.declared.ways.Way.{Way}
 use Rattle.voice_store.specs.declared.committing.Plan.{Plan}
 use Rattle.voice_store.specs.Stood.{Stood, last_of, tapes_of}
 use Rattle.voice_store.specs.Trying.{IsPlan}
+use Rattle.voice_store.specs.Keeping.{recording_of}
 use Rattle.voice_store.specs.Ways.{IsWay}
 
 -- the change that the End of a lane's open recording makes
 abbrev pub ended_by : State → ℕ → Effect Tagged
-ended_by s lane = Recorded s.next (recording s.next (taking_of s lane))
+ended_by s lane = recording_of s (taking_of s lane)
 
 -- its last block, filled up with zero bytes; nothing where its bytes end with a block
 abbrev pub last_bytes : State → ℕ → List ℕ

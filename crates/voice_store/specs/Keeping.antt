@@ -3,7 +3,7 @@
 --     HasWay first t0 disk s call pieces way      the journal does not refuse it either; so the rope gets there
 --     refused_by next block spare n      why a recording of n samples is refused, but for the journal's room
 --     MakesRecording first t0 disk s take      nothing is in doubt, and nothing refuses a recording, but perhaps the journal
---     recorded_by s tapes take      the change that a recording makes
+--     recording_of s bytes, recorded_by s tapes take      the change that a recording of these bytes makes;  that of a take
 --     HasRoom first t0 disk s take way      the journal does not refuse it either; so it gets there
 --     HoldsRecording first t0 disk s take next      its rope is ready in the tables, at addresses that were free
 use Rattle.std.specs.Prelude.{◌≡◌, ℕ, nat_lt, true, false, List, [], ◌∷◌, length, Option, None, IsTrue}
@@ -58,9 +58,13 @@ pub record MakesRecording (first : State) (t0 : ℕ) (disk : Told) (s : Inside) 
   pub has : HasTake (tapes_of s) take
   pub unrefused : first_of (before_journal (last_of first s) (tapes_of s) (calls.Record take)) ≡ None
 
--- the change that a recording makes
+-- the change that a recording of these bytes makes
+abbrev pub recording_of : State → List ℕ → Effect Tagged
+recording_of s bytes = Recorded s.next (recording s.next bytes)
+
+-- the change that a recording of a take makes
 abbrev pub recorded_by : State → List (List ℕ) → Take → Effect Tagged
-recorded_by s tapes take = Recorded s.next (recording s.next (taken tapes take))
+recorded_by s tapes take = recording_of s (taken tapes take)
 
 -- the journal does not refuse it either; so it gets there
 pub record HasRoom (first : State) (t0 : ℕ) (disk : Told) (s : Inside) (take : Take) (way : Way) : Type 0 where

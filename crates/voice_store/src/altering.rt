@@ -19,7 +19,6 @@ ghost use Rattle.voice_store.specs.DeviceCalls.{change_calls};
 ghost use Rattle.voice_store.specs.Facts.{Goes, IsFault, Stays, entry_of};
 ghost use Rattle.voice_store.specs.Residing.{KeepsUsed};
 
-use crate::committing::Plan;
 use crate::going::Going;
 use crate::inside::Inside;
 use crate::replies::twice;
@@ -124,13 +123,9 @@ impl Inside {
             Way::Full(most, left) => {
                 Ok(self.refuse(disk, caller, call, Why::JournalFull(most, left)))
             }
-            Way::Append => {
+            way => {
                 let going = Going::Change(next);
-                Ok(self.commit(disk, caller, call, replies, going, Plan::Append))
-            }
-            Way::Switch => {
-                let going = Going::Change(next);
-                let plan = self.plan(&going, Way::Switch)?;
+                let plan = self.plan(&going, way)?;
                 Ok(self.commit(disk, caller, call, replies, going, plan))
             }
         }

@@ -1,6 +1,6 @@
 //! Ropes made of other ropes.
 
-ghost use Rattle.std.specs.Prelude.{◌≡◌, ◌+◌, ◌*◌, ◌≤◌, ◌<◌, ◌==◌, ◌++◌, ◌∷◌, [], ℕ, List, Some, None, false, cond, IsTrue, IfOk, OnErr, length, vec_len, vec_capacity};
+ghost use Rattle.std.specs.Prelude.{◌≡◌, ◌+◌, ◌*◌, ◌≤◌, ◌<◌, ◌==◌, ◌++◌, ◌∷◌, [], ℕ, List, Some, None, Ok, false, cond, IsTrue, IfOk, OnErr, length, vec_len, vec_capacity};
 ghost use Rattle.voice_units.specs.declared.Piece.{Piece};
 ghost use Rattle.voice_units.specs.Spots.{samples_in};
 ghost use Rattle.voice_outside.specs.Counters.{HasRisen};
@@ -55,7 +55,8 @@ impl Inside {
     /// How a change that is ready gets into the journal, where that is not full.
     pub(crate) fn plan(&self, going: &Going, way: Way) -> Result<Plan, NoMemory>
         requires { IsGoingIn self.now.journal.shape self.now.parts going.now }
-        ensures { (held : List (List Piece)) (takings more : List ℕ) (b : Rebuilt) (c : Change) (s : State) (effect : Effect Tagged) → IsGoing held takings more self.now.parts b going.now c → b.shape ≡ self.now.journal.shape → IsWay s effect way → is_journal_full s effect ≡ false → IfOk result (IsPlan self.now.journal s effect (acted b c)) }
+        ensures behind { way ≡ Way.Append → result ≡ Ok Plan.Append }
+        ensures planned { (held : List (List Piece)) (takings more : List ℕ) (b : Rebuilt) (c : Change) (s : State) (effect : Effect Tagged) → IsGoing held takings more self.now.parts b going.now c → b.shape ≡ self.now.journal.shape → IsWay s effect way → is_journal_full s effect ≡ false → IfOk result (IsPlan self.now.journal s effect (acted b c)) }
     {
         let Way::Switch = way else {
             return Ok(Plan::Append);
@@ -143,8 +144,7 @@ impl Inside {
             Way::Full(most, left) => {
                 Ok(self.refuse(disk, caller, call, Why::JournalFull(most, left)))
             }
-            Way::Append => self.keep_by(disk, caller, call, pieces, Way::Append),
-            Way::Switch => self.keep_by(disk, caller, call, pieces, Way::Switch),
+            way => self.keep_by(disk, caller, call, pieces, way),
         }
     }
 

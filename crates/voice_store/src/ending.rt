@@ -18,16 +18,14 @@ use crate::committing::Plan;
 use crate::editing::replies_of;
 use crate::going::{Going, give_up};
 use crate::inside::Inside;
-use crate::recording::{address_width, growth};
 use crate::ways::Way;
-use checkpoint::parts_size;
 use crash_laws::laws::{disks_are_honest, foundations};
 use next_ropes::NextRope;
 use open_recordings::ready_ended;
 use recording_writer::write_samples;
 use voice_model::{Call, Reply, Why};
 use voice_outside::Disk;
-use voice_units::{Failed, Lane, NoMemory, blocks_needed};
+use voice_units::{Failed, Lane, NoMemory};
 
 // The addresses from one of them on.
 fn tail_of(addresses: &[u32], from: usize) -> &[u32]
@@ -154,18 +152,12 @@ impl Inside {
         ensures frames { KeepsUsed self.old self.new }
         ensures stood { (first : State) (t0 : ℕ) → EndsRecording first t0 (D.told disk.old) self.old lane → Stood first t0 (D.told disk.new) self.new }
     {
-        let shape = self.journal.shape();
-        let form = self.parts.form;
         let len = self.recordings.total(lane);
-        let base = parts_size(&self.parts);
-        let more = u128::from(growth(form, shape.block, len));
-        let blocks = u64::from(blocks_needed(shape.block, len as u64));
-        match self.way(22 + address_width(form) * blocks, base, base + more)? {
+        match self.recording_way(len)? {
             Way::Full(most, left) => {
                 Ok(self.refuse(disk, caller, Call::End(lane), Why::JournalFull(most, left)))
             }
-            Way::Append => self.end_by(disk, caller, lane, Way::Append),
-            Way::Switch => self.end_by(disk, caller, lane, Way::Switch),
+            way => self.end_by(disk, caller, lane, way),
         }
     }
 

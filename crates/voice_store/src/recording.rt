@@ -1,6 +1,6 @@
 //! Recordings.
 
-ghost use Rattle.std.specs.Prelude.{◌≡◌, ◌+◌, ◌*◌, ◌==◌, ◌≤◌, ◌<◌, ◌^◌, ◌++◌, ◌∷◌, [], ℕ, None, cond, length, IsTrue, IfOk, OnOk, OnErr, vec_len, vec_capacity};
+ghost use Rattle.std.specs.Prelude.{◌≡◌, ◌+◌, ◌*◌, ◌==◌, ◌≤◌, ◌<◌, ◌^◌, ◌++◌, ◌∷◌, [], ℕ, List, None, cond, length, IsTrue, IfOk, OnOk, OnErr, vec_len, vec_capacity};
 ghost use Rattle.voice_units.specs.Blocks.{blocks_for};
 ghost use Rattle.voice_outside.specs.Disk.{MakesAtMost};
 ghost use Rattle.voice_outside.specs.Counters.{HasRisen};
@@ -15,12 +15,13 @@ ghost use Rattle.crash_laws.specs.Standing.{IsLater};
 ghost use Rattle.next_ropes.specs.Ready.{next_change};
 ghost use Rattle.next_ropes.specs.declared.NextRope.{NextRope as RopeValue};
 ghost use Rattle.voice_store.specs.Filled.{IsPadded};
-ghost use Rattle.voice_store.specs.Stood.{Stood, last_of, tapes_of};
+ghost use Rattle.voice_store.specs.Stood.{IsSeated, ShowsState, Stood, last_of, tapes_of};
 ghost use Rattle.voice_store.specs.Trying.{IsPlan};
 ghost use Rattle.voice_store.specs.DeviceCalls.{change_calls};
 ghost use Rattle.voice_store.specs.Facts.{GoesOn, IsFault, entry_of};
-ghost use Rattle.voice_store.specs.Keeping.{HasRoom, HoldsRecording, MakesRecording, recorded_by, refused_by};
+ghost use Rattle.voice_store.specs.Keeping.{HasRoom, HoldsRecording, MakesRecording, recorded_by, recording_of, refused_by};
 ghost use Rattle.voice_store.specs.Residing.{KeepsUsed};
+ghost use Rattle.voice_store.specs.Ways.{IsWay};
 
 use crate::committing::Plan;
 use crate::editing::{replies_of, rope_size};
@@ -37,14 +38,14 @@ use voice_outside::Disk;
 use voice_units::{Failed, LAST_ROPE, MOST_SAMPLES, NoMemory, Shape, Take, blocks_needed};
 
 // The bytes that an address takes in a record.
-pub(crate) fn address_width(form: u8) -> u64
+fn address_width(form: u8) -> u64
     ensures { result ≡ sizes.address_size form }
 {
     if form == 2 { 4 } else { 2 }
 }
 
 // What a recording of so many samples adds to a base: its rope, and its file with the blocks, where it has any.
-pub(crate) fn growth(form: u8, block: u32, len: u32) -> u64
+fn growth(form: u8, block: u32, len: u32) -> u64
     requires least { 1 ≤ block }
     requires most { len ≤ 2 ^ 30 }
     requires block_limit { block ≤ 8192 }
@@ -58,6 +59,19 @@ pub(crate) fn growth(form: u8, block: u32, len: u32) -> u64
 }
 
 impl Inside {
+    /// How a recording of so many samples gets into the journal, where nothing is in doubt.
+    pub(crate) fn recording_way(&self, len: u32) -> Result<Way, NoMemory>
+        requires { len ≤ 2 ^ 30 }
+        ensures { (s : State) (bytes : List ℕ) → IsSeated self.now.journal s → ShowsState self.now.parts s → length bytes ≡ len → IfOk result (IsWay s (recording_of s bytes)) }
+    {
+        let shape = self.journal.shape();
+        let form = self.parts.form;
+        let base = parts_size(&self.parts);
+        let more = u128::from(growth(form, shape.block, len));
+        let blocks = u64::from(blocks_needed(shape.block, len as u64));
+        self.way(22 + address_width(form) * blocks, base, base + more)
+    }
+
     // Why a recording of so many samples is refused, but for the journal's room.
     fn refusal(&self, shape: &Shape, len: u32) -> Option<Why>
         ensures { result ≡ refused_by self.now.parts.next shape.now.block (open_in self.now.parts.blocks.holders) len }
@@ -188,12 +202,7 @@ impl Inside {
         ensures frames { KeepsUsed self.old self.new }
         ensures stood { (first : State) (t0 : ℕ) → MakesRecording first t0 (D.told disk.old) self.old take → Stood first t0 (D.told disk.new) self.new }
     {
-        let shape = self.journal.shape();
-        let form = self.parts.form;
-        let base = parts_size(&self.parts);
-        let more = u128::from(growth(form, shape.block, take.len));
-        let blocks = u64::from(blocks_needed(shape.block, take.len as u64));
-        match self.way(22 + address_width(form) * blocks, base, base + more)? {
+        match self.recording_way(take.len)? {
             Way::Full(most, left) => {
                 Ok(self.refuse(
                     disk,
@@ -202,8 +211,7 @@ impl Inside {
                     Why::JournalFull(most, left),
                 ))
             }
-            Way::Append => self.record_by(disk, caller, take, Way::Append),
-            Way::Switch => self.record_by(disk, caller, take, Way::Switch),
+            way => self.record_by(disk, caller, take, way),
         }
     }
 

@@ -8,7 +8,7 @@ use Rattle.voice_store.specs.Keeping.{recorded_by}
 use Rattle.voice_model.specs.Replay.{acted}
 use Rattle.voice_store.proofs.Counted.{unwritten_within, recorded_within}
 use Rattle.voice_store.proofs.CanGo.{can_go}
-use Rattle.voice_store.proofs.Written.{Goes, change_in, in_shape, same_rope, trying_recording, stood_unwritten}
+use Rattle.voice_store.proofs.Written.{Goes, change_in, recording_going, same_rope, trying_recording, stood_unwritten}
 use Rattle.voice_store.proofs.inside.Inside.write_and_commit.Goals as goal
 
 pub write_recording-written-requires-clause-holds : goal.write_recording-written-requires-clause-holds
@@ -22,7 +22,7 @@ failed-requires-clause-ready g c κs within =
     let h = c.requires.holds in
     let rope = c.in-Change-Rope.rope in
     let goes = subst (Goes h.2 h.3 (g.D.Disk.told c.args.disk.now) c.args.self.now c.args.take c.args.plan) (same_rope c.args.going h.0 rope h.1 (c.in-Change-Rope.is ∙ ap goings.Change c.in-Change-Rope.field-0-is)) (h.4, h.5) in
-    record { held = goes.0.makes.stood.held; takings = goes.0.makes.stood.takings; more = goes.0.makes.stood.takings; b = goes.0.makes.stood.b; c = change_in goes.0.makes.stood.b rope; ready = (refl, goes.0.ready); in_shape = in_shape h.2 h.3 (g.D.Disk.told c.args.disk.now) c.args.self.now c.args.take rope goes.0 }
+    recording_going h.2 h.3 (g.D.Disk.told c.args.disk.now) c.args.self.now c.args.take rope goes.0
 
 pub returns-in_default-written-clause-stood : goal.returns-in_default-written-clause-stood
 returns-in_default-written-clause-stood g c = λ other is first t0 held plan.
@@ -61,7 +61,7 @@ commit-requires-clause-ready g c κs within =
     let h = c.requires.holds in
     let rope = c.in-Change-Rope.rope in
     let goes = subst (Goes h.2 h.3 (g.D.Disk.told c.args.disk.now) c.args.self.now c.args.take c.args.plan) (same_rope c.args.going h.0 rope h.1 (c.in-Change-Rope.is ∙ ap goings.Change c.in-Change-Rope.field-0-is)) (h.4, h.5) in
-    record { held = goes.0.makes.stood.held; takings = goes.0.makes.stood.takings; more = goes.0.makes.stood.takings; b = goes.0.makes.stood.b; c = change_in goes.0.makes.stood.b rope; ready = (refl, goes.0.ready); in_shape = in_shape h.2 h.3 (g.D.Disk.told c.args.disk.now) c.args.self.now c.args.take rope goes.0 }
+    recording_going h.2 h.3 (g.D.Disk.told c.args.disk.now) c.args.self.now c.args.take rope goes.0
 
 pub returns-clause-stood : goal.returns-clause-stood
 returns-clause-stood g c = λ other is first t0 held plan.
