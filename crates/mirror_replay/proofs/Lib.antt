@@ -1,0 +1,3 @@
+pub mod KindsOfChanges
+pub mod Following
+pub mod SoFar

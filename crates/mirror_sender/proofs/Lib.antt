@@ -1,0 +1,10 @@
+pub mod Lists
+pub mod Plainly
+pub mod Likeness
+pub mod Bodies
+pub mod Made
+pub mod Performed
+pub mod Takings
+pub mod Following
+pub mod Noted
+pub mod Started

@@ -1,0 +1,4 @@
+pub mod Sent
+pub mod Told
+pub mod Coming
+pub mod Abreast
