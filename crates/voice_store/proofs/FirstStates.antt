@@ -86,7 +86,7 @@ as_rebuild : (shape : Shape) (ps : List journal.Record) (b : Rebuilt) → replay
 as_rebuild shape ps b e = numbered_all (as_journal shape ps) b e
 
 -- its shape is the journal's, and it is a state, whatever the bytes are
-shape_rebuilt : (shape : Shape) (ps : List journal.Record) (b : Rebuilt) → replayed (nothing_rebuilt shape) (records_of ps) ≡ Replayed.All b → b.shape ≡ shape
+pub shape_rebuilt : (shape : Shape) (ps : List journal.Record) (b : Rebuilt) → replayed (nothing_rebuilt shape) (records_of ps) ≡ Replayed.All b → b.shape ≡ shape
 shape_rebuilt shape ps b e = let v = valid (as_journal shape ps) b (as_rebuild shape ps b e) in v.3
 
 first_valid : (bytes : List ℕ) (shape : Shape) (ps : List journal.Record) (b : Rebuilt) (left epoch : ℕ) → replayed (nothing_rebuilt shape) (records_of ps) ≡ Replayed.All b

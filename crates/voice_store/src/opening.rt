@@ -8,7 +8,7 @@ ghost use Rattle.voice_model.specs.State.{State};
 ghost use Rattle.voice_model.specs.Replay.{Rebuilt, nothing_rebuilt};
 ghost use Rattle.voice_model.specs.Image.{Reading, Replayed, reading, replayed, opened_from};
 ghost use Rattle.recovery.specs.Replayed.{records_of};
-ghost use Rattle.recovery.specs.Shown.{Rebuilds};
+ghost use Rattle.recovery.specs.Shown.{Rebuilds, IsParts};
 ghost use Rattle.voice_store.specs.Stood.{Stood};
 ghost use Rattle.listening.specs.Looks.{OnlyLooked};
 ghost use Rattle.voice_store.specs.Facts.{Goes};
@@ -58,6 +58,7 @@ impl Inside {
         ensures since { IsTrue (D.told disk.old).honest → OnOk result (Since ((D.told disk.old).calls + 1) (D.told disk.new) (λ image. image ≡ (D.told disk.old).bytes)) }
         ensures fields { IfOk result (λ s. (s.tapes ≡ tapes) × (s.history.items ≡ [])) }
         ensures frames { IfOk result (λ s. (n : ℕ) × (s.lanes.frames.resident ≡ replicate n None)) }
+        ensures parts { IfOk result (λ s. IsParts s.journal.shape s.parts) }
         ensures state { IfOk result (λ s. (first : State) × Stood first ((D.told disk.old).calls + 1) (D.told disk.new) s × (IsTrue (D.told disk.old).honest → opened_from (D.told disk.old).bytes ≡ Some first)) }
         ensures bad { IfErr result (λ e. (place : ℕ) → e ≡ OpenError.BadDisk place → IsTrue (D.told disk.old).honest → reading (D.told disk.old).bytes ≡ Reading.Bad place) }
         ensures fault { IfErr result (λ e. e ≡ OpenError.DiskFault → HasRisen (D.told disk.old).faults (D.told disk.new).faults) }

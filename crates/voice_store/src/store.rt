@@ -15,6 +15,7 @@ ghost use Rattle.voice_model.specs.Image.{Reading, reading, opened_from};
 ghost use Rattle.frame_pool.specs.Pool.{spent};
 ghost use Rattle.tallies.specs.Tallies.{samples_of};
 ghost use Rattle.lane_calls.specs.Answers.{IsHandedOut, HasStopped};
+ghost use Rattle.recovery.specs.Shown.{IsParts};
 ghost use Rattle.voice_store.specs.Feeding.{told, HasSamples};
 ghost use Rattle.voice_store.specs.Shown.{Keeps, HasBlock, HasRoomFor, history_of, tapes_in, pool_of, lanes_in, frames_in, state_of};
 ghost use Rattle.voice_store.specs.Stood.{ShowsState};
@@ -86,6 +87,8 @@ impl<D: Disk> Store<D> {
         ensures ok { IfOk result (λ s. (s.origin ≡ disk) × (tapes_in s ≡ arc_value tapes) × (history_of s ≡ []) × Goes 5 (D.told disk) (D.told s.disk) × (s.wanted ≡ false)) }
         // The opened state is what the disk's bytes recover.
         ensures state { IfOk result (λ s. (first : State) × Keeps D.told first s × (IsTrue (D.told disk).honest → opened_from (D.told disk).bytes ≡ Some first)) }
+        // The tables are those that the records rebuild, on every disk.
+        ensures parts { IfOk result (λ s. IsParts s.inside.journal.shape s.inside.parts) }
         // No frame holds a block.
         ensures frames { IfOk result (λ s. (n : ℕ) × (frames_in s ≡ replicate n None)) }
         // From the first sync on, each crash leaves the bytes that were read.

@@ -10,7 +10,7 @@ use Rattle.crash_laws.specs.Standing.{IsHonest}
 use Rattle.crash_laws.proofs.Opened.{opening_holds}
 use Rattle.voice_store.specs.declared.inside.Inside.{Inside}
 use Rattle.voice_store.specs.Stood.{tapes_of}
-use Rattle.voice_store.proofs.FirstStates.{first_of, stood_first, opens_as_first, first_held, refused_place}
+use Rattle.voice_store.proofs.FirstStates.{first_of, stood_first, opens_as_first, first_held, refused_place, shape_rebuilt}
 use Rattle.std.proofs.lemmas.Result.{err_from_is_err_and}
 use Rattle.std.specs.Prelude.{None, replicate}
 use Rattle.voice_model.specs.State.{quiet_lane}
@@ -40,6 +40,14 @@ returns-in_err-parts-clause-bad g c =
     let reads = c.in_ok-shape.ensures.reads honest in
     refused_place old.bytes new opening reads.0 reads.1 c.in_ok-shape.ensures.same refused.0 place
     refused.1 refused.2)
+
+pub returns-clause-parts : goal.returns-clause-parts
+returns-clause-parts g c =
+    let opening : Opened = c.in_ok-shape.field-0 in
+    let same = c.in_ok-shape.ensures.same in
+    let b = c.in_ok-parts.ensures.ok.0 in
+    let rebuilds : replayed (nothing_rebuilt opening.shape) (records_of opening.payloads) ≡ Replayed.All b = c.in_ok-parts.ensures.ok.1 in
+    record { what = b; shows = c.in_ok-parts.ensures.ok.2; in_shape = shape_rebuilt opening.shape opening.payloads b rebuilds ∙ sym same }
 
 -- src/opening.rt:63:5
 pub returns-clause-state : goal.returns-clause-state
