@@ -8,7 +8,7 @@ use disk_areas::read_8;
 
 /// What the records so far say of the next number.
 #[derive(Clone, Copy)]
-pub(crate) enum Course {
+pub enum Course {
     /// There is no record so far.
     Begun,
     /// The first one begins a base of form 2, and all so far have this number.

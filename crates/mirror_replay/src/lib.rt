@@ -8,6 +8,7 @@ mod putting;
 mod replaying;
 mod stripping;
 
+pub use courses::Course;
 pub use putting::put_numbered;
 pub use replaying::{Followed, replay};
 

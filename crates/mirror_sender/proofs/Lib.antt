@@ -8,3 +8,7 @@ pub mod Takings
 pub mod Following
 pub mod Noted
 pub mod Started
+pub mod Whole
+pub mod Grammar
+pub mod Good
+pub mod Opened

@@ -9,18 +9,21 @@
 --     MayHold tapes sender s call      the sender follows the state, and the change of the call may be in doubt
 --     MayNote tapes sender s e      the sender follows the state, and the entry may come next
 --     Follows tapes old new s before after made      after this effect the sender follows a later state, and its packet was appended
+--     AreWithin tapes es      the numbers, lists and takes of each call lie in their ranges
+--     FollowsAll tapes old new s before after made      after these effects the sender follows a later state, and their packets were appended
+--     FollowsSome tapes old new s es before after      the sender follows the state after the first of these entries, and the packets of their changes were appended
 --     HasChanged own old new before after made      an effect was done on the tables, and its packet was appended
 --     course_of reply      how a call went, by its reply
 --     only_changes call, is_quiet call      a call that can make a change, and does nothing else;  one of which nothing is followed
 --     IsLeft adds call left      what is left of what was added once the change of a call is in doubt
-use Rattle.std.specs.Prelude.{◌≡◌, ℕ, ◌+◌, ◌==◌, ◌≤◌, Bool, true, false, not, cond, List, [], ◌∷◌, ◌++◌, length, Option, Some, None, Vec, is_some}
+use Rattle.std.specs.Prelude.{◌≡◌, ℕ, ◌+◌, ◌==◌, ◌≤◌, Bool, true, false, not, cond, List, [], ◌∷◌, ◌++◌, length, take, Option, Some, None, Vec, is_some}
 use Rattle.std.specs.declared.alloc.Global.{Global}
 use Rattle.voice_units.specs.declared.pieces.Take.{Take}
 use Rattle.voice_units.specs.declared.shapes.Shape.{Shape}
 use Rattle.voice_model.specs.Samples.{Tagged, spot_of}
 use Rattle.voice_model.specs.State.{State, Durable, Effect, LaneState, Pending}
 use Rattle.voice_model.specs.Changes.{taking_of, effect_of, is_changing}
-use Rattle.voice_model.specs.Step.{Outcome, refusal, nothing_to_land, answered, state_by, IsAnswer}
+use Rattle.voice_model.specs.Step.{Outcome, refusal, nothing_to_land, answered, state_by, after, IsAnswer}
 use Rattle.voice_model.specs.Tapes.{HasTake}
 use Rattle.voice_model.specs.Valid.{Every, IsState, InRange}
 use Rattle.voice_model.specs.declared.calls.Call.{Call}
@@ -37,7 +40,7 @@ use Rattle.mirror_sender.specs.declared.recordings.Added.{Added}
 use Rattle.mirror_sender.specs.declared.noting.Course.{Course}
 use Rattle.mirror_sender.specs.declared.noting.Course.TheVariants as courses
 use Rattle.mirror_sender.specs.declared.sender.Sender.{Sender}
-use Rattle.mirror_sender.specs.Sent.{packets_of}
+use Rattle.mirror_sender.specs.Sent.{packets_of, packets_from, changes_of}
 use Rattle.mirror_sender.specs.Told.{IsLike, IsTold, changed_by}
 use Rattle.mirror_sender.specs.Coming.{bytes_taken, IsNextOf, IsMaybeNext}
 
@@ -148,6 +151,21 @@ pub record Follows (tapes : List (List ℕ)) (old new : Sender) (s : State) (bef
   pub abreast : IsAbreast tapes new s
   pub bytes : after ≡ before ++ packets_spelling (packets_of old.next made)
   pub next : new.next ≡ old.next + length (packets_of old.next made)
+
+-- each call's fields lie in their ranges, its lists are short enough, and its takes lie in the tapes
+abbrev pub AreWithin : List (List ℕ) → List Entry → Type 0
+AreWithin tapes es = Every (λ (e : Entry). InRange e.call × IsWithin tapes e.call) es
+
+-- the sender follows a later state, and the packets of these effects were appended
+pub record FollowsAll (tapes : List (List ℕ)) (old new : Sender) (s : State) (before after : List ℕ) (made : List (Effect Tagged)) : Type 0 where
+  pub abreast : IsAbreast tapes new s
+  pub bytes : after ≡ before ++ packets_spelling (packets_from old.next made)
+  pub next : new.next ≡ old.next + length made
+
+-- the sender follows the state after the first entries, however many they are, and the packets of their changes were appended
+pub record FollowsSome (tapes : List (List ℕ)) (old new : Sender) (s : State) (es : List Entry) (before bytes : List ℕ) : Type 0 where
+  pub count : ℕ
+  pub first : FollowsAll tapes old new (after s tapes (take count es)) before bytes (changes_of s tapes (take count es))
 
 -- an effect was done on the tables, and its packet was appended, if there is one
 pub record HasChanged (own : Durable Tagged) (old new : Sender) (before after : List ℕ) (made : Option (Effect Tagged)) : Type 0 where

@@ -2,6 +2,7 @@
 #![tactic(auto)]
 
 mod coming;
+pub mod laws;
 mod making;
 mod noting;
 mod performing;

@@ -2,12 +2,12 @@
 
 ghost use Rattle.std.specs.Prelude.{◌≡◌, ℕ, ◌≤◌, ◌^◌, [], List, OnOk, OnErr, is_some};
 ghost use Rattle.voice_model.specs.State.{State};
-ghost use Rattle.voice_model.specs.Step.{state_after};
+ghost use Rattle.voice_model.specs.Step.{state_after, after, Legal};
 ghost use Rattle.voice_model.specs.Replay.{Rebuilt};
 ghost use Rattle.voice_model.specs.Valid.{InRange};
 ghost use Rattle.row_calls.specs.Asked.{Tells};
-ghost use Rattle.mirror_sender.specs.Sent.{sent};
-ghost use Rattle.mirror_sender.specs.Abreast.{IsSound, IsAbreast, IsWithin, Starts, MayNote, Follows};
+ghost use Rattle.mirror_sender.specs.Sent.{sent, changes_of};
+ghost use Rattle.mirror_sender.specs.Abreast.{IsSound, IsAbreast, IsWithin, AreWithin, Starts, MayNote, Follows, FollowsAll, FollowsSome};
 
 use crate::coming::Next;
 use crate::noting::{Course, course_by};
@@ -78,5 +78,24 @@ impl Sender {
             Course::Doubted => self.hold(tapes, &entry.call),
             Course::Answered => self.answer(tapes, &entry.call, out),
         }
+    }
+
+    /// Follows a whole history, and appends the packets of its changes. After want of memory it follows the first entries, and the packets of their changes were appended. More than 2^48 packets count as want of memory.
+    pub fn follow(
+        &mut self,
+        tapes: &Tapes,
+        history: &[Entry],
+        out: &mut Vec<u8>,
+    ) -> Result<(), NoMemory>
+        requires sound { IsSound tapes.now self.old }
+        requires within { AreWithin tapes.now history.now }
+        ensures sound { IsSound tapes.now self.new }
+        ensures ok { (s : State) → IsAbreast tapes.now self.old s → Legal s tapes.now history.now → OnOk result (FollowsAll tapes.now self.old self.new (after s tapes.now history.now) out.old.items out.new.items (changes_of s tapes.now history.now)) }
+        ensures err { (s : State) → IsAbreast tapes.now self.old s → Legal s tapes.now history.now → OnErr result (FollowsSome tapes.now self.old self.new s history.now out.old.items out.new.items) }
+    {
+        for entry in history {
+            self.note(tapes, entry, out)?;
+        }
+        Ok(())
     }
 }

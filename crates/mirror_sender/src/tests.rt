@@ -116,6 +116,37 @@ fn edit_script(sender: &mut Sender, tapes: &Tapes, out: &mut Vec<u8>) -> Result<
     noted(sender, tapes, part, Reply::Rope(RopeId(2), 7), out)
 }
 
+// An entry of caller 1.
+fn entry(call: Call, reply: Reply) -> Entry
+    ensures { result.call ≡ call }
+{
+    Entry {
+        caller: 1,
+        call,
+        reply,
+        ack: 0,
+    }
+}
+
+// A recording and a part of it, as one history.
+fn history_script(sender: &mut Sender, tapes: &Tapes, out: &mut Vec<u8>) -> Result<(), NoMemory>
+    requires { IsSound tapes.now sender.old }
+{
+    let take = Take {
+        tape: 0,
+        from: 0,
+        len: 20,
+    };
+    if !tapes.has(take) {
+        return Ok(());
+    }
+    let history = [
+        entry(Call::Record(take), Reply::Rope(RopeId(1), 20)),
+        entry(Call::Sub(RopeId(1), 5, 7), Reply::Rope(RopeId(2), 7)),
+    ];
+    sender.follow(tapes, history.as_slice(), out)
+}
+
 // How many bytes are sent of a recording in doubt; then it lands.
 fn doubt_script(sender: &mut Sender, tapes: &Tapes, out: &mut Vec<u8>) -> Result<usize, NoMemory>
     requires { IsSound tapes.now sender.old }
@@ -148,6 +179,17 @@ fn of_an_edit(
 ) -> Result<(), NoMemory> {
     let mut sender = started(alloc, shape)?;
     edit_script(&mut sender, tapes, out)
+}
+
+// The packets of the same edit, as one history.
+fn of_a_history(
+    alloc: Global,
+    shape: &Shape,
+    tapes: &Tapes,
+    out: &mut Vec<u8>,
+) -> Result<(), NoMemory> {
+    let mut sender = started(alloc, shape)?;
+    history_script(&mut sender, tapes, out)
 }
 
 // The packets of a doubt, and how many bytes were sent before it landed.
@@ -188,6 +230,19 @@ fn an_edit_is_sent(rt: HostRuntime) -> Result<(), Fail> {
     ];
     assert_eq!(rt; out.len(), 41 + 39);
     assert!(rt; &out[41..] == expected.as_slice());
+    Ok(())
+}
+
+#[test]
+fn a_history_is_sent_as_its_entries(rt: HostRuntime) -> Result<(), Fail> {
+    let shape = small_shape()?;
+    let tapes = one_tape(rt.alloc())?;
+    let mut apart = Vec::new(rt.alloc());
+    of_an_edit(rt.alloc(), &shape, &tapes, &mut apart)?;
+    let mut whole = Vec::new(rt.alloc());
+    of_a_history(rt.alloc(), &shape, &tapes, &mut whole)?;
+    assert_eq!(rt; whole.len(), 41 + 39);
+    assert!(rt; whole.as_slice() == apart.as_slice());
     Ok(())
 }
 

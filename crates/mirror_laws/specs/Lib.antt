@@ -1,0 +1,4 @@
+pub mod Standing
+pub mod Calls
+pub mod Foundations
+pub mod Laws

@@ -1,0 +1,4 @@
+pub mod Fronts
+pub mod Looking
+pub mod Refusals
+pub mod Opened
