@@ -108,7 +108,7 @@ read_not_bad disk place r bad = let e : image.Reading.Reads r.journal r.rebuilt 
 pub opened_not_bad : (bytes : List ℕ) (first : State) (place : ℕ) → image.opened_from bytes ≡ Some first → image.reading bytes ≡ image.Reading.Bad place → ⊥
 opened_not_bad bytes first place opened bad = let e : Some first ≡ None = sym opened ∙ ap (image.opened_by bytes) bad in cc
 
-exact : (threads : Bool) (name : List ℕ) (files : Files) (a : ℕ) (b : Option (List ℕ)) (c d : ℕ) (disk : Told) (new : Outside) (history : List Entry) (status : Status) → RunComes threads name (outside (Some files) a b c d disk) new history status → IsExact files name disk status
+pub exact : (threads : Bool) (name : List ℕ) (files : Files) (a : ℕ) (b : Option (List ℕ)) (c d : ℕ) (disk : Told) (new : Outside) (history : List Entry) (status : Status) → RunComes threads name (outside (Some files) a b c d disk) new history status → IsExact files name disk status
 exact threads name files a b c d disk new history Done h = record {
   bad_script = λ n cause bad. absurd (ready_not_bad files name h.script h.tapes n cause h.ready bad);
   no_file = λ x gone. absurd (ready_not_absent files name h.script h.tapes x h.ready gone);
@@ -204,7 +204,7 @@ no_faults : (threads : Bool) (name : List ℕ) (files : Files) (a : ℕ) (b : Op
 no_faults threads name files a b c d disk new history later calm (inl none) = ap (count_by is_fault) none.silent
 no_faults threads name files a b c d disk new history later calm (inr ran) = no_faults_at disk.faults (count_by is_fault history) new.disk.faults calm ran.1.performed.disk.faults
 
-complete : (threads : Bool) (name : List ℕ) (files : Files) (a : ℕ) (b : Option (List ℕ)) (c d : ℕ) (disk : Told) (new : Outside) (history : List Entry) (status : Status) → RunComes threads name (outside (Some files) a b c d disk) new history status → RunSoFar threads name (outside (Some files) a b c d disk) new history → disk.faults ≤ new.disk.faults → IsComplete files name (outside (Some files) a b c d disk) new history status
+pub complete : (threads : Bool) (name : List ℕ) (files : Files) (a : ℕ) (b : Option (List ℕ)) (c d : ℕ) (disk : Told) (new : Outside) (history : List Entry) (status : Status) → RunComes threads name (outside (Some files) a b c d disk) new history status → RunSoFar threads name (outside (Some files) a b c d disk) new history → disk.faults ≤ new.disk.faults → IsComplete files name (outside (Some files) a b c d disk) new history status
 complete threads name files a b c d disk new history status h so_far later = λ there honest read calm dry still. (by status h there honest read calm dry still, no_faults threads name files a b c d disk new history later still so_far)
   where
     by : (status : Status) → RunComes threads name (outside (Some files) a b c d disk) new history status → IsThere files name → IsTrue disk.honest → IsRead disk → (HasRisen a new.shelf_faults → ⊥) → (HasRisen c new.sink_faults ⊎ HasRisen d new.empty_takes → ⊥) → (HasRisen disk.faults new.disk.faults → ⊥) → (status ≡ Done) ⊎ (status ≡ NoMemory)
@@ -231,7 +231,7 @@ promised threads name None a b c d disk new history status comes so_far later le
 promised threads name (Some files) a b c d disk new history status comes so_far later left done =
     record { comes = comes; so_far = so_far; exact = exact threads name files a b c d disk new history status comes; complete = complete threads name files a b c d disk new history status comes so_far later; left = left; done = done }
 
-stopped : (threads : Bool) (name : List ℕ) (told : Option Files) (a : ℕ) (b : Option (List ℕ)) (c d : ℕ) (disk : Told) (new : Outside) (history : List Entry) (status : Status) → Stops name told (HasRisen a new.shelf_faults) status → RunComes threads name (outside told a b c d disk) new history status
+pub stopped : (threads : Bool) (name : List ℕ) (told : Option Files) (a : ℕ) (b : Option (List ℕ)) (c d : ℕ) (disk : Told) (new : Outside) (history : List Entry) (status : Status) → Stops name told (HasRisen a new.shelf_faults) status → RunComes threads name (outside told a b c d disk) new history status
 stopped threads name told a b c d disk new history Done h = absurd h
 stopped threads name told a b c d disk new history Usage h = h
 stopped threads name told a b c d disk new history BadShape h = h

@@ -39,7 +39,7 @@ stood (Some files) after history queues sink status prints set = absurd prints
 -- ---- the calls were made
 
 -- the shelf's faults rose since it was read, and so since before
-performs_since : (a e f : ℕ) (sink : Type 0) (old new : Told) (status : Status) → a ≤ e → Performs (HasRisen e f) sink old new status → Performs (HasRisen a f) sink old new status
+pub performs_since : (a e f : ℕ) (sink : Type 0) (old new : Told) (status : Status) → a ≤ e → Performs (HasRisen e f) sink old new status → Performs (HasRisen a f) sink old new status
 performs_since a e f sink old new ShelfFault early h = λ below. let risen = h below in omega (arith, early, risen)
 performs_since a e f sink old new Done early h = tt
 performs_since a e f sink old new SinkFault early h = h
@@ -84,7 +84,7 @@ left_lent threads tapes script told after old new history lent heard heard_lent 
 
 -- ---- the promise of a run whose script is ready
 
-there_of : (told : Option Files) (name : List ℕ) (script : Reading) (tapes : List (List ℕ)) → IfSome told (λ files. IsReady files name script tapes) → IfSome told (λ files. IsThere files name)
+pub there_of : (told : Option Files) (name : List ℕ) (script : Reading) (tapes : List (List ℕ)) → IfSome told (λ files. IsReady files name script tapes) → IfSome told (λ files. IsThere files name)
 there_of None name script tapes ready = tt
 there_of (Some files) name script tapes ready = record { script = script; tapes = tapes; ready = ready }
 
@@ -109,7 +109,7 @@ so_far_from : (threads : Bool) (told : Option Files) (name : List ℕ) (script :
 so_far_from threads None name script tapes old new history ready performed = tt
 so_far_from threads (Some files) name script tapes old new history ready performed = (performed.0, record { script = script; tapes = tapes; ready = ready; performed = performed.1 })
 
-so_far_ready : (threads : Bool) (told : Option Files) (name : List ℕ) (a : ℕ) (b : Option (List ℕ)) (c d : ℕ) (disk : Told) (new : Outside) (script : Reading) (tapes : List (List ℕ)) (history : List Entry) → IfSome told (λ files. IsReady files name script tapes)
+pub so_far_ready : (threads : Bool) (told : Option Files) (name : List ℕ) (a : ℕ) (b : Option (List ℕ)) (c d : ℕ) (disk : Told) (new : Outside) (script : Reading) (tapes : List (List ℕ)) (history : List Entry) → IfSome told (λ files. IsReady files name script tapes)
     → ((history ≡ []) × IsUnchanged disk new.disk) ⊎ ((k : ℕ) × Performed tapes (Begun threads tapes script k history) disk new.disk history) → RunSoFar threads name (outside told a b c d disk) new history
 so_far_ready threads told name a b c d disk new script tapes history ready (inl none) = inl (record { silent = none.0; disk = none.1 })
 so_far_ready threads told name a b c d disk new script tapes history ready (inr performed) = inr (so_far_from threads told name script tapes disk new.disk history ready performed)

@@ -31,4 +31,8 @@ pub mod Standing
 pub mod Making
 pub mod Wide
 pub mod MakeWords
+pub mod PacketsWords
 pub mod Left
+pub mod Within
+pub mod Starting
+pub mod SentOut

@@ -18,6 +18,16 @@ three_items f (a ∷ b ∷ []) v n m low high first second third = absurd (omega
 three_items f (a ∷ b ∷ c ∷ []) v n m low high first second third = ap (λ x. f x ∷ f b ∷ f c ∷ []) (sym first) ∙ ap (λ x. f v ∷ f x ∷ f c ∷ []) (sym second) ∙ ap (λ x. f v ∷ f n ∷ f x ∷ []) (sym third)
 three_items f (a ∷ b ∷ c ∷ d ∷ xs) v n m low high first second third = absurd (omega arith)
 
+pub four_items :
+    {X : Type 0} (f : X → List ℕ) (xs : List X) (v n m k : X) → 4 ≤ length xs → length xs < 5 → v ≡ get_or xs 0 v → n ≡ get_or xs 1 n → m ≡ get_or xs 2 m → k ≡ get_or xs 3 k → map f xs ≡ f v ∷ f n ∷ f m ∷ f k ∷ []
+four_items f [] v n m k low high first second third fourth = absurd (omega arith)
+four_items f (a ∷ []) v n m k low high first second third fourth = absurd (omega arith)
+four_items f (a ∷ b ∷ []) v n m k low high first second third fourth = absurd (omega arith)
+four_items f (a ∷ b ∷ c ∷ []) v n m k low high first second third fourth = absurd (omega arith)
+four_items f (a ∷ b ∷ c ∷ d ∷ []) v n m k low high first second third fourth =
+    ap (λ x. f x ∷ f b ∷ f c ∷ f d ∷ []) (sym first) ∙ ap (λ x. f v ∷ f x ∷ f c ∷ f d ∷ []) (sym second) ∙ ap (λ x. f v ∷ f n ∷ f x ∷ f d ∷ []) (sym third) ∙ ap (λ x. f v ∷ f n ∷ f m ∷ f x ∷ []) (sym fourth)
+four_items f (a ∷ b ∷ c ∷ d ∷ e ∷ xs) v n m k low high first second third fourth = absurd (omega arith)
+
 no_file : (bytes name : List ℕ) → is_file bytes ≡ false → IsTrue (is_file name) → bytes ≡ name → ⊥
 no_file bytes name none some same = false≢true (sym none ∙ ap is_file same ∙ some)
 

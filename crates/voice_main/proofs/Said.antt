@@ -9,7 +9,7 @@ use Rattle.voice_outside.specs.Disk.{Told}
 use Rattle.voice_main.specs.declared.options.FormatNumbers.{FormatNumbers}
 use Rattle.voice_main.specs.declared.status.Status.{Status}
 use Rattle.voice_main.specs.declared.status.Status.TheVariants.{Done, Usage, ShelfFault, NoMemory}
-use Rattle.voice_main.specs.Words.{Command, Says, run_command, IsSerial, IsThreaded, IsFormat, IsConversion, IsNotes, IsAudit, IsRefused, IsNoRun, IsNoFormat, IsNoConversion, IsNoAudit, IsNoNotes, IsMake, IsNoMake}
+use Rattle.voice_main.specs.Words.{Command, Says, run_command, IsSerial, IsThreaded, IsFormat, IsConversion, IsNotes, IsAudit, IsRefused, IsNoRun, IsNoFormat, IsNoConversion, IsNoAudit, IsNoNotes, IsMake, IsNoMake, IsPackets, IsNoPackets}
 use Rattle.voice_main.specs.declared.convert.Way.{Way}
 use Rattle.voice_main.specs.declared.convert.Way.TheVariants as ways
 use Rattle.voice_main.specs.Conversions.{way_word}
@@ -20,6 +20,7 @@ use Rattle.voice_main.specs.ConversionPromise.{ConversionPromise}
 use Rattle.voice_main.specs.NotesPromise.{NotesPromise}
 use Rattle.voice_main.specs.AuditPromise.{AuditPromise, AuditComes}
 use Rattle.voice_main.specs.MakePromise.{MakePromise, MakeComes}
+use Rattle.voice_main.specs.PacketsPromise.{PacketsPromise}
 use Rattle.voice_main.specs.Promises.{Promises, Comes}
 
 -- `--threads` names no file
@@ -176,14 +177,55 @@ same_making words a b m n p q =
     let counts : decimal m ≡ decimal n = cc in
     (decimal_injective a b p.seed_most q.seed_most seeds, decimal_injective m n (let few = p.most in omega (arith, few)) (let few = q.most in omega (arith, few)) counts)
 
-pub refused_by : (words : List (List ℕ)) → IsNoRun words → IsNoFormat words → IsNoConversion words → IsNoAudit words → IsNoNotes words → IsNoMake words → IsRefused words
-refused_by words run format convert audit notes make (Command.Run name) = run false name
-refused_by words run format convert audit notes make (Command.RunThreads name) = run true name
-refused_by words run format convert audit notes make (Command.Format numbers) = format numbers
-refused_by words run format convert audit notes make (Command.Convert way source target) = convert way source target
-refused_by words run format convert audit notes make (Command.Notes index) = notes index
-refused_by words run format convert audit notes make Command.Audit = audit
-refused_by words run format convert audit notes make (Command.Make seed lines) = make seed lines
+-- words that ask for packets
+packets_word : (word : List ℕ) (rest others : List (List ℕ)) → bytes_eq (codes "packets") word ≡ false → word ∷ rest ≡ codes "packets" ∷ others → ⊥
+packets_word word rest others other e = false≢true (sym other ∙ ap (begins (codes "packets")) e)
+
+run_not_packets : (threads : Bool) (words : List (List ℕ)) (name script file : List ℕ) (first : ℕ) → Says words (run_command threads name) → IsPackets words script file first → ⊥
+run_not_packets false words name script file first r q = packets_word (codes "run") (name ∷ []) (script ∷ file ∷ decimal first ∷ []) refl (sym r.form ∙ q.form)
+run_not_packets true words name script file first r q = by r.form
+  where
+    by : (words ≡ codes "run" ∷ name ∷ codes "--threads" ∷ []) ⊎ (words ≡ codes "run" ∷ codes "--threads" ∷ name ∷ []) → ⊥
+    by (inl e) = packets_word (codes "run") (name ∷ codes "--threads" ∷ []) (script ∷ file ∷ decimal first ∷ []) refl (sym e ∙ q.form)
+    by (inr e) = packets_word (codes "run") (codes "--threads" ∷ name ∷ []) (script ∷ file ∷ decimal first ∷ []) refl (sym e ∙ q.form)
+
+format_not_packets : (words : List (List ℕ)) (numbers : FormatNumbers) (script file : List ℕ) (first : ℕ) → IsFormat words numbers → IsPackets words script file first → ⊥
+format_not_packets words numbers script file first f q = packets_word (codes "format") f.options (script ∷ file ∷ decimal first ∷ []) refl (sym f.form ∙ q.form)
+
+way_not_packets : (way : Way) (rest others : List (List ℕ)) → way_word way ∷ rest ≡ codes "packets" ∷ others → ⊥
+way_not_packets ways.Import rest others e = packets_word (codes "import") rest others refl e
+way_not_packets ways.Export rest others e = packets_word (codes "export") rest others refl e
+
+pub conversion_not_packets : (words : List (List ℕ)) (way : Way) (source target script file : List ℕ) (first : ℕ) → IsConversion way words source target → IsPackets words script file first → ⊥
+conversion_not_packets words way source target script file first p q = way_not_packets way (source ∷ target ∷ []) (script ∷ file ∷ decimal first ∷ []) (sym p.form ∙ q.form)
+
+notes_not_packets : (words : List (List ℕ)) (index script file : List ℕ) (first : ℕ) → IsNotes words index → IsPackets words script file first → ⊥
+notes_not_packets words index script file first p q = packets_word (codes "notes") (index ∷ []) (script ∷ file ∷ decimal first ∷ []) refl (sym p.form ∙ q.form)
+
+audit_not_packets : (words : List (List ℕ)) (script file : List ℕ) (first : ℕ) → IsAudit words → IsPackets words script file first → ⊥
+audit_not_packets words script file first p q = packets_word (codes "audit") [] (script ∷ file ∷ decimal first ∷ []) refl (sym p ∙ q.form)
+
+make_not_packets : (words : List (List ℕ)) (seed lines : ℕ) (script file : List ℕ) (first : ℕ) → IsMake words seed lines → IsPackets words script file first → ⊥
+make_not_packets words seed lines script file first p q = packets_word (codes "make") (decimal seed ∷ decimal lines ∷ []) (script ∷ file ∷ decimal first ∷ []) refl (sym p.form ∙ q.form)
+
+-- words ask for the packets of one script
+same_sending : (words : List (List ℕ)) (s t f g : List ℕ) (m n : ℕ) → IsPackets words s f m → IsPackets words t g n → (s ≡ t) × (f ≡ g) × (m ≡ n)
+same_sending words s t f g m n p q =
+    let e : codes "packets" ∷ s ∷ f ∷ decimal m ∷ [] ≡ codes "packets" ∷ t ∷ g ∷ decimal n ∷ [] = sym p.form ∙ q.form in
+    let scripts : s ≡ t = cc in
+    let files : f ≡ g = cc in
+    let numbers : decimal m ≡ decimal n = cc in
+    (scripts, files, decimal_injective m n (let few = p.most in omega (arith, few)) (let few = q.most in omega (arith, few)) numbers)
+
+pub refused_by : (words : List (List ℕ)) → IsNoRun words → IsNoFormat words → IsNoPackets words → IsNoConversion words → IsNoAudit words → IsNoNotes words → IsNoMake words → IsRefused words
+refused_by words run format packets convert audit notes make (Command.Run name) = run false name
+refused_by words run format packets convert audit notes make (Command.RunThreads name) = run true name
+refused_by words run format packets convert audit notes make (Command.Format numbers) = format numbers
+refused_by words run format packets convert audit notes make (Command.Convert way source target) = convert way source target
+refused_by words run format packets convert audit notes make (Command.Notes index) = notes index
+refused_by words run format packets convert audit notes make Command.Audit = audit
+refused_by words run format packets convert audit notes make (Command.Make seed lines) = make seed lines
+refused_by words run format packets convert audit notes make (Command.Packets script file first) = packets script file first
 
 -- the promise of the run that the words say is that of whatever command they say
 pub run_only : (threads : Bool) (words : List (List ℕ)) (name : List ℕ) (old new : Outside) (status : Status) (history : List Entry) → Says words (run_command threads name) → RunPromise threads name old new status history → (command : Command) → Says words command → Promises command old new status history
@@ -196,19 +238,21 @@ run_only threads words name old new status history p h (Command.Convert way sour
 run_only threads words name old new status history p h (Command.Notes index) q = absurd (run_not_notes threads words name index p q)
 run_only threads words name old new status history p h Command.Audit q = absurd (run_not_audit threads words name p q)
 run_only threads words name old new status history p h (Command.Make seed lines) q = absurd (run_not_make threads words name seed lines p q)
+run_only threads words name old new status history p h (Command.Packets script file first) q = absurd (run_not_packets threads words name script file first p q)
 
 pub run_comes : (threads : Bool) (words : List (List ℕ)) (name : List ℕ) (old new : Outside) (status : Status) (history : List Entry) → Says words (run_command threads name) → RunPromise threads name old new status history → Comes words old new status history
 run_comes false words name old new status history p h = inr (Command.Run name, p, h)
 run_comes true words name old new status history p h = inr (Command.RunThreads name, p, h)
 
-pub format_only : (words : List (List ℕ)) (old new : Outside) (status : Status) (history : List Entry) → IsNoRun words → IsNoConversion words → IsNoAudit words → IsNoNotes words → IsNoMake words → ((numbers : FormatNumbers) → IsFormat words numbers → FormatPromise numbers old new status history) → (command : Command) → Says words command → Promises command old new status history
-format_only words old new status history none other audit notes make h (Command.Run b) q = absurd (none false b q)
-format_only words old new status history none other audit notes make h (Command.RunThreads b) q = absurd (none true b q)
-format_only words old new status history none other audit notes make h (Command.Format numbers) q = h numbers q
-format_only words old new status history none other audit notes make h (Command.Convert way source target) q = absurd (other way source target q)
-format_only words old new status history none other audit notes make h (Command.Notes index) q = absurd (notes index q)
-format_only words old new status history none other audit notes make h Command.Audit q = absurd (audit q)
-format_only words old new status history none other audit notes make h (Command.Make seed lines) q = absurd (make seed lines q)
+pub format_only : (words : List (List ℕ)) (old new : Outside) (status : Status) (history : List Entry) → IsNoRun words → IsNoPackets words → IsNoConversion words → IsNoAudit words → IsNoNotes words → IsNoMake words → ((numbers : FormatNumbers) → IsFormat words numbers → FormatPromise numbers old new status history) → (command : Command) → Says words command → Promises command old new status history
+format_only words old new status history none packets other audit notes make h (Command.Run b) q = absurd (none false b q)
+format_only words old new status history none packets other audit notes make h (Command.RunThreads b) q = absurd (none true b q)
+format_only words old new status history none packets other audit notes make h (Command.Format numbers) q = h numbers q
+format_only words old new status history none packets other audit notes make h (Command.Convert way source target) q = absurd (other way source target q)
+format_only words old new status history none packets other audit notes make h (Command.Notes index) q = absurd (notes index q)
+format_only words old new status history none packets other audit notes make h Command.Audit q = absurd (audit q)
+format_only words old new status history none packets other audit notes make h (Command.Make seed lines) q = absurd (make seed lines q)
+format_only words old new status history none packets other audit notes make h (Command.Packets script file first) q = absurd (packets script file first q)
 
 pub format_comes : (words : List (List ℕ)) (numbers : FormatNumbers) (old new : Outside) (status : Status) (history : List Entry) → IsFormat words numbers → FormatPromise numbers old new status history → Comes words old new status history
 format_comes words numbers old new status history p h = inr (Command.Format numbers, p, h)
@@ -221,6 +265,7 @@ conversion_only way words source target old new status history p h (Command.Form
 conversion_only way words source target old new status history p h (Command.Notes index) q = absurd (conversion_not_notes words way source target index p q)
 conversion_only way words source target old new status history p h Command.Audit q = absurd (conversion_not_audit words way source target p q)
 conversion_only way words source target old new status history p h (Command.Make seed lines) q = absurd (conversion_not_make words way source target seed lines p q)
+conversion_only way words source target old new status history p h (Command.Packets script file first) q = absurd (conversion_not_packets words way source target script file first p q)
 conversion_only way words source target old new status history p h (Command.Convert other s t) q =
     let same = same_way words way other source target s t p.form q.form in
     let at_way = subst (λ w. ConversionPromise w source target old new status history) same.0 h in
@@ -239,6 +284,7 @@ notes_only words index old new status history p h (Command.Convert way source ta
 notes_only words index old new status history p h (Command.Notes b) q = subst (λ n. NotesPromise n old new status history) (same_index words index b p q) h
 notes_only words index old new status history p h Command.Audit q = absurd (notes_not_audit words index p q)
 notes_only words index old new status history p h (Command.Make seed lines) q = absurd (notes_not_make words index seed lines p q)
+notes_only words index old new status history p h (Command.Packets script file first) q = absurd (notes_not_packets words index script file first p q)
 
 pub notes_comes : (words : List (List ℕ)) (index : List ℕ) (old new : Outside) (status : Status) (history : List Entry) → IsNotes words index → NotesPromise index old new status history → Comes words old new status history
 notes_comes words index old new status history p h = inr (Command.Notes index, p, h)
@@ -252,6 +298,7 @@ audit_only words old new status history p h (Command.Convert way source target) 
 audit_only words old new status history p h (Command.Notes index) q = absurd (notes_not_audit words index q p)
 audit_only words old new status history p h Command.Audit q = h
 audit_only words old new status history p h (Command.Make seed lines) q = absurd (audit_not_make words seed lines p q)
+audit_only words old new status history p h (Command.Packets script file first) q = absurd (audit_not_packets words script file first p q)
 
 pub audit_comes : (words : List (List ℕ)) (old new : Outside) (status : Status) (history : List Entry) → IsAudit words → AuditPromise old new status history → Comes words old new status history
 audit_comes words old new status history p h = inr (Command.Audit, p, h)
@@ -264,12 +311,29 @@ make_only words seed lines old new status history p h (Command.Format numbers) q
 make_only words seed lines old new status history p h (Command.Convert way source target) q = absurd (conversion_not_make words way source target seed lines q p)
 make_only words seed lines old new status history p h (Command.Notes b) q = absurd (notes_not_make words b seed lines q p)
 make_only words seed lines old new status history p h Command.Audit q = absurd (audit_not_make words seed lines q p)
+make_only words seed lines old new status history p h (Command.Packets script file first) q = absurd (make_not_packets words seed lines script file first p q)
 make_only words seed lines old new status history p h (Command.Make other count) q =
     let same = same_making words seed other lines count p q in
     subst (λ n. MakePromise other n old new status history) same.1 (subst (λ n. MakePromise n lines old new status history) same.0 h)
 
 pub make_comes : (words : List (List ℕ)) (seed lines : ℕ) (old new : Outside) (status : Status) (history : List Entry) → IsMake words seed lines → MakePromise seed lines old new status history → Comes words old new status history
 make_comes words seed lines old new status history p h = inr (Command.Make seed lines, p, h)
+
+-- the promise of the packets that the words ask for is that of whatever command they say
+pub packets_only : (words : List (List ℕ)) (script file : List ℕ) (first : ℕ) (old new : Outside) (status : Status) (history : List Entry) → IsPackets words script file first → PacketsPromise script file first old new status history → (command : Command) → Says words command → Promises command old new status history
+packets_only words script file first old new status history p h (Command.Run b) q = absurd (run_not_packets false words b script file first q p)
+packets_only words script file first old new status history p h (Command.RunThreads b) q = absurd (run_not_packets true words b script file first q p)
+packets_only words script file first old new status history p h (Command.Format numbers) q = absurd (format_not_packets words numbers script file first q p)
+packets_only words script file first old new status history p h (Command.Convert way source target) q = absurd (conversion_not_packets words way source target script file first q p)
+packets_only words script file first old new status history p h (Command.Notes b) q = absurd (notes_not_packets words b script file first q p)
+packets_only words script file first old new status history p h Command.Audit q = absurd (audit_not_packets words script file first q p)
+packets_only words script file first old new status history p h (Command.Make seed lines) q = absurd (make_not_packets words seed lines script file first q p)
+packets_only words script file first old new status history p h (Command.Packets other to number) q =
+    let same = same_sending words script other file to first number p q in
+    subst (λ n. PacketsPromise other to n old new status history) same.2 (subst (λ n. PacketsPromise other n first old new status history) same.1 (subst (λ n. PacketsPromise n file first old new status history) same.0 h))
+
+pub packets_comes : (words : List (List ℕ)) (script file : List ℕ) (first : ℕ) (old new : Outside) (status : Status) (history : List Entry) → IsPackets words script file first → PacketsPromise script file first old new status history → Comes words old new status history
+packets_comes words script file first old new status history p h = inr (Command.Packets script file first, p, h)
 
 aloud : (command : Command) (old new : Outside) (history : List Entry) → Promises command old new Usage history → ⊥
 aloud (Command.Run name) old new history h = h.comes
@@ -279,6 +343,7 @@ aloud (Command.Convert way source target) old new history h = h.comes
 aloud (Command.Notes index) old new history h = h.comes
 aloud Command.Audit old new history h = h.comes
 aloud (Command.Make seed lines) old new history h = h.comes
+aloud (Command.Packets script file first) old new history h = h.comes
 
 -- usage comes exactly where the words are refused
 pub usage_of : (words : List (List ℕ)) (old new : Outside) (status : Status) (history : List Entry) → Comes words old new status history → IsRefused words → status ≡ Usage

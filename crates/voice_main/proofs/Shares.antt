@@ -337,12 +337,15 @@ pub goes_between : {D : Type 0} (told : D → Told) (a b c d : D) → a ≡ b �
 goes_between told a b c d p q h = subst (λ x. GoesOn (told x) (told c)) (sym p) (subst (λ x. GoesOn (told b) (told x)) (sym q) h)
 
 -- the same of a disk that was handed in
-pub begun_from : {D : Type 0} (told : D → Told) (origin entry out : D) (lent tapes : List (List ℕ)) (script : Reading) (k : ℕ) (history : List Entry) → origin ≡ entry → lent ≡ tapes → Performed lent (Begun true lent script k history) (told origin) (told out) history
-    → Performed tapes (Begun true tapes script k history) (told entry) (told out) history
-begun_from told origin entry out lent tapes script k history there is h =
-    subst (λ d. Performed tapes (Begun true tapes script k history) (told d) (told out) history) there (subst (λ t. Performed t (Begun true t script k history) (told origin) (told out) history) is h)
+pub begun_from : {D : Type 0} (told : D → Told) (threads t : Bool) (origin entry out : D) (lent tapes : List (List ℕ)) (script : Reading) (k : ℕ) (history : List Entry) → threads ≡ t → origin ≡ entry → lent ≡ tapes → Performed lent (Begun t lent script k history) (told origin) (told out) history
+    → Performed tapes (Begun threads tapes script k history) (told entry) (told out) history
+begun_from told threads t origin entry out lent tapes script k history same there is h =
+    subst (λ d. Performed tapes (Begun threads tapes script k history) (told d) (told out) history) there
+    (subst (λ ts. Performed ts (Begun threads ts script k history) (told origin) (told out) history) is (subst (λ (b : Bool). Performed lent (Begun b lent script k history) (told origin) (told out) history) (sym same) h))
 
-pub made_from : {D : Type 0} (told : D → Told) (origin entry out : D) (lent tapes : List (List ℕ)) (script : Reading) (lists : List (Vec Heard Global)) (history : List Entry) → origin ≡ entry → lent ≡ tapes → Performed lent (MadeGiving true lent script (told origin) (told out) history (queues_of lists)) (told origin) (told out) history
-    → Performed tapes (MadeGiving true tapes script (told entry) (told out) history (queues_of lists)) (told entry) (told out) history
-made_from told origin entry out lent tapes script lists history there is h =
-    subst (λ d. Performed tapes (MadeGiving true tapes script (told d) (told out) history (queues_of lists)) (told d) (told out) history) there (subst (λ t. Performed t (MadeGiving true t script (told origin) (told out) history (queues_of lists)) (told origin) (told out) history) is h)
+pub made_from : {D : Type 0} (told : D → Told) (threads t : Bool) (origin entry out : D) (lent tapes : List (List ℕ)) (script : Reading) (lists : List (Vec Heard Global)) (history : List Entry) → threads ≡ t → origin ≡ entry → lent ≡ tapes
+    → Performed lent (MadeGiving t lent script (told origin) (told out) history (queues_of lists)) (told origin) (told out) history → Performed tapes (MadeGiving threads tapes script (told entry) (told out) history (queues_of lists)) (told entry) (told out) history
+made_from told threads t origin entry out lent tapes script lists history same there is h =
+    subst (λ d. Performed tapes (MadeGiving threads tapes script (told d) (told out) history (queues_of lists)) (told d) (told out) history) there
+    (subst (λ ts. Performed ts (MadeGiving threads ts script (told origin) (told out) history (queues_of lists)) (told origin) (told out) history) is
+    (subst (λ (b : Bool). Performed lent (MadeGiving b lent script (told origin) (told out) history (queues_of lists)) (told origin) (told out) history) (sym same) h))

@@ -12,9 +12,11 @@ pub mod NotesPromise
 pub mod Options
 pub mod Ordered
 pub mod Outside
+pub mod PacketsPromise
 pub mod Played
 pub mod Promises
 pub mod Ran
 pub mod RunPromise
+pub mod Sent
 pub mod Statuses
 pub mod Words

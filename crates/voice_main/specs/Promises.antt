@@ -13,6 +13,7 @@ use Rattle.voice_main.specs.ConversionPromise.{ConversionPromise}
 use Rattle.voice_main.specs.NotesPromise.{NotesPromise}
 use Rattle.voice_main.specs.AuditPromise.{AuditPromise}
 use Rattle.voice_main.specs.MakePromise.{MakePromise}
+use Rattle.voice_main.specs.PacketsPromise.{PacketsPromise}
 
 -- the promise of each command
 abbrev pub Promises : Command → Outside → Outside → Status → List Entry → Type 0
@@ -23,6 +24,7 @@ Promises (Command.Convert way source target) = ConversionPromise way source targ
 Promises (Command.Notes index) = NotesPromise index
 Promises Command.Audit = AuditPromise
 Promises (Command.Make seed lines) = MakePromise seed lines
+Promises (Command.Packets script file first) = PacketsPromise script file first
 
 -- the words are refused, or they say a command, whose promise holds
 abbrev pub Comes : List (List ℕ) → Outside → Outside → Status → List Entry → Type 0

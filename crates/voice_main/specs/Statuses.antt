@@ -11,6 +11,8 @@ use Rattle.std.specs.Prelude.{ℕ, List, Option, IfSome, codes}
 use Rattle.voice_outside.specs.Counters.{HasRisen}
 use Rattle.voice_outside.specs.Disk.{Told}
 use Rattle.voice_outside.specs.Files.{Files}
+use Rattle.voice_outside.specs.declared.errors.OutsideError.{OutsideError}
+use Rattle.voice_outside.specs.declared.errors.OutsideError.TheVariants as outer
 use Rattle.voice_journal.specs.declared.errors.OpenError.{OpenError}
 use Rattle.voice_journal.specs.declared.errors.OpenError.TheVariants as opening
 use Rattle.script_lang.specs.declared.scripts.Cause.{Cause}
@@ -113,6 +115,10 @@ load_status_of load.NoMemory = NoMemory
 abbrev pub note_status_of : List ℕ → NoteError → Status
 note_status_of name (notes.BadAnchor place) = BadNote name place
 note_status_of name notes.NoMemory = NoMemory
+
+abbrev pub shelf_status_of : OutsideError → Status
+shelf_status_of outer.Failed = ShelfFault
+shelf_status_of outer.NoMemory = NoMemory
 
 abbrev pub script_status_of : ScriptError → Status
 script_status_of (script.BadLine n cause) = BadScript n cause

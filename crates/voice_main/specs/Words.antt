@@ -10,7 +10,7 @@ use Rattle.voice_main.specs.declared.options.Given.{Given}
 use Rattle.voice_main.specs.declared.options.FormatNumbers.{FormatNumbers}
 use Rattle.voice_main.specs.Options.{none_given, Gives, numbers_of}
 
--- what the words may ask for: a run of a script in its order, or of each caller's lines on a thread of its own; a disk formatted; a file made of another; a census of the keys that notes name; an audit of the disk; a run of the script that a seed generates, of so many lines
+-- what the words may ask for: a run of a script in its order, or of each caller's lines on a thread of its own; a disk formatted; a file made of another; a census of the keys that notes name; an audit of the disk; a run of the script that a seed generates, of so many lines; a run of a script whose changes are written as packets to a file, numbered from there on
 pub data Command : Type 0 where
   Run : List ℕ → Command
   RunThreads : List ℕ → Command
@@ -19,6 +19,7 @@ pub data Command : Type 0 where
   Notes : List ℕ → Command
   Audit : Command
   Make : ℕ → ℕ → Command
+  Packets : List ℕ → List ℕ → ℕ → Command
 
 -- the run of a script, on threads or not
 abbrev pub run_command : Bool → List ℕ → Command
@@ -65,6 +66,14 @@ pub record IsMake (words : List (List ℕ)) (seed lines : ℕ) : Type 0 where
   pub least : 1 ≤ lines
   pub most : lines ≤ 65535
 
+-- they are `packets SCRIPT FILE FIRST`, the number in decimal digits, from 1 to 2^47
+pub record IsPackets (words : List (List ℕ)) (script file : List ℕ) (first : ℕ) : Type 0 where
+  pub form : words ≡ codes "packets" ∷ script ∷ file ∷ decimal first ∷ []
+  pub script_file : IsTrue (is_file script)
+  pub packets_file : IsTrue (is_file file)
+  pub least : 1 ≤ first
+  pub most : first ≤ 2 ^ 47
+
 abbrev pub Says : List (List ℕ) → Command → Type 0
 Says words (Command.Run name) = IsSerial words name
 Says words (Command.RunThreads name) = IsThreaded words name
@@ -73,6 +82,7 @@ Says words (Command.Convert way source target) = IsConversion way words source t
 Says words (Command.Notes index) = IsNotes words index
 Says words Command.Audit = IsAudit words
 Says words (Command.Make seed lines) = IsMake words seed lines
+Says words (Command.Packets script file first) = IsPackets words script file first
 
 -- the words ask for nothing that the program knows
 abbrev pub IsRefused : List (List ℕ) → Type 0
@@ -101,3 +111,7 @@ IsNoAudit words = IsAudit words → ⊥
 -- they ask for no generated script
 abbrev pub IsNoMake : List (List ℕ) → Type 0
 IsNoMake words = (seed lines : ℕ) → IsMake words seed lines → ⊥
+
+-- they ask for no packets
+abbrev pub IsNoPackets : List (List ℕ) → Type 0
+IsNoPackets words = (script file : List ℕ) (first : ℕ) → IsPackets words script file first → ⊥

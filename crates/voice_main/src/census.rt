@@ -10,10 +10,11 @@ ghost use Rattle.voice_main.specs.Notes.{IsOneCensus, IsCensusSoFar};
 ghost use Rattle.voice_main.specs.NotesPromise.{NotesPromise};
 ghost use Rattle.voice_main.specs.Statuses.{Opens, Performs, IsEarly, IsSilent};
 
+use crate::calling::Called;
 use crate::notes::named;
 use crate::output::print;
 use crate::status::Status;
-use crate::top_call::{Called, Ended, open_status};
+use crate::top_call::{Ended, open_status};
 use std::alloc::Global;
 use std::sync::Arc;
 use voice_model::{Call, KeyList, Tapes};

@@ -3,6 +3,7 @@
 
 mod assigned;
 mod audited;
+mod calling;
 mod census;
 mod convert;
 mod format;
@@ -12,6 +13,7 @@ mod notes;
 mod numbers;
 mod options;
 mod output;
+mod packets;
 mod played;
 mod script_lines;
 mod status;

@@ -8,7 +8,7 @@ ghost use Rattle.script_lang.specs.Verbs.{is_built_verb};
 ghost use Rattle.script_lang.specs.Whole.{IsWhole};
 ghost use Rattle.voice_store.specs.Facts.{GoesOn};
 ghost use Rattle.served_files.specs.Files.{AreEnough, queues_of};
-ghost use Rattle.voice_main.specs.Words.{Command, Says, IsRefused, IsConversion, IsNoRun, IsNoConversion, IsNoAudit, IsNoNotes, IsNoMake};
+ghost use Rattle.voice_main.specs.Words.{Command, Says, IsRefused, IsConversion, IsNoRun, IsNoConversion, IsNoAudit, IsNoNotes, IsNoMake, IsNoPackets};
 ghost use Rattle.voice_main.specs.declared.convert.Way.{Way as WayValue};
 ghost use Rattle.voice_main.specs.Outside.{outside, IsUnchanged};
 ghost use Rattle.voice_main.specs.Ran.{IsReady, Performed, Begun, MadeGiving};
@@ -19,6 +19,7 @@ ghost use Rattle.voice_main.specs.Statuses.{Stops, Opens, Performs, IsEarly, IsS
 
 use crate::assigned::assigned;
 use crate::audited::audited;
+use crate::calling::call_all;
 use crate::census::census;
 use crate::convert::convert;
 use crate::format::format;
@@ -26,19 +27,17 @@ use crate::load::{file, files, load_status};
 use crate::make::make;
 use crate::options::format_numbers;
 use crate::output::print;
+use crate::packets::packets;
 use crate::played::finish;
-use crate::script_lines::run_lines;
 use crate::status::Status;
-use crate::threads::call_on_threads;
-use crate::words::{conversion_words, is_audit, make_words, notes_words, run_words};
+use crate::words::{conversion_words, is_audit, make_words, notes_words, packets_words, run_words};
 use script_lang::{Script, ScriptError, parse};
-use served_files::Heard;
 use std::alloc::Global;
 use std::sync::{Arc, Wait};
 use std::thread::Threads;
 use voice_model::{Entry, Tapes};
 use voice_outside::{Disk, Gate, Shelf, Sink};
-use voice_store::{OpenError, Store};
+use voice_store::OpenError;
 use voice_units::Name;
 
 /// How a run ended, with the disk and the history.
@@ -75,8 +74,12 @@ pub(crate) fn open_status(e: OpenError) -> Status
     }
 }
 
-// The script of that name, with its sample files.
-fn prepared<K: Shelf>(alloc: Global, name: &Name, shelf: &mut K) -> Result<Scripted, Status>
+/// The script of that name, with its sample files.
+pub(crate) fn prepared<K: Shelf>(
+    alloc: Global,
+    name: &Name,
+    shelf: &mut K,
+) -> Result<Scripted, Status>
     ensures ready { IfOk result (λ s. IfSome (K.files shelf.old) (λ files. IsReady files name.now s.script (arc_value s.tapes))) }
     ensures whole { IfOk result (λ s. IsWhole is_built_verb s.script) }
     ensures there { IfOk result (λ s. length (arc_value s.tapes) ≡ length s.script.samples) }
@@ -100,83 +103,6 @@ fn prepared<K: Shelf>(alloc: Global, name: &Name, shelf: &mut K) -> Result<Scrip
         return Err(Status::NoMemory);
     };
     Ok(Scripted { script, tapes })
-}
-
-/// The disk and the history that the calls of a script left, and what each caller heard, that of caller 1 first.
-#[derive(Drop)]
-pub(crate) struct Called<D> {
-    pub(crate) disk: D,
-    pub(crate) history: Vec<Entry>,
-    pub(crate) heard: Vec<Vec<Heard>>,
-    pub(crate) is_finished: bool,
-}
-
-// Opens the disk's store, and makes the calls of a script.
-fn call_lines<D: Disk, G: Gate>(
-    alloc: Global,
-    scripted: &Scripted,
-    disk: D,
-    gate: &G,
-) -> Result<Called<D>, (Status, D)>
-    requires whole { IsWhole is_built_verb scripted.now.script }
-    requires there { length (arc_value scripted.now.tapes) ≡ length scripted.now.script.samples }
-    ensures so_far { IfOk result (λ called. (k : ℕ) × Performed (arc_value scripted.now.tapes) (Begun false (arc_value scripted.now.tapes) scripted.now.script k called.history.items) (D.told disk) (D.told called.disk) called.history.items) }
-    ensures finished { IfOk result (λ called. called.is_finished ≡ true → Performed (arc_value scripted.now.tapes) (MadeGiving false (arc_value scripted.now.tapes) scripted.now.script (D.told disk) (D.told called.disk) called.history.items (queues_of called.heard.items)) (D.told disk) (D.told called.disk) called.history.items) }
-    ensures enough { IfOk result (λ called. called.is_finished ≡ true → AreEnough called.history.items called.heard.items × (length called.heard.items ≤ 16)) }
-    ensures opens { IfErr result (λ e. Opens (D.told disk) (D.told e.1) e.0) }
-    ensures looks { IfErr result (λ e. IsUnchanged (D.told disk) (D.told e.1)) }
-    ensures goes { IfOk result (λ called. GoesOn (D.told disk) (D.told called.disk)) }
-    ensures goes_back { IfErr result (λ e. GoesOn (D.told disk) (D.told e.1)) }
-{
-    let Ok(tapes) = Arc::try_clone(&scripted.tapes) else {
-        return Err((Status::NoMemory, disk));
-    };
-    let mut store = match Store::open(alloc, disk, tapes) {
-        Ok(store) => store,
-        Err((e, disk)) => return Err((open_status(e), disk)),
-    };
-    let ran = run_lines(alloc, &mut store, &scripted.tapes, &scripted.script, gate);
-    let wanted = store.wanted();
-    let (disk, history) = store.close();
-    let Ok(heard) = ran else {
-        return Ok(Called {
-            disk,
-            history,
-            heard: Vec::new(alloc),
-            is_finished: false,
-        });
-    };
-    Ok(Called {
-        disk,
-        history,
-        heard,
-        is_finished: !wanted,
-    })
-}
-
-// Makes the calls of a script, on threads or in its order.
-fn call_all<R: Threads + Wait + Sync, D: Disk, G: Gate>(
-    rt: &R,
-    alloc: Global,
-    threads: bool,
-    scripted: &Scripted,
-    disk: D,
-    gate: &G,
-) -> Result<Called<D>, (Status, D)>
-    requires whole { IsWhole is_built_verb scripted.now.script }
-    requires there { length (arc_value scripted.now.tapes) ≡ length scripted.now.script.samples }
-    ensures so_far { IfOk result (λ called. (k : ℕ) × Performed (arc_value scripted.now.tapes) (Begun threads (arc_value scripted.now.tapes) scripted.now.script k called.history.items) (D.told disk) (D.told called.disk) called.history.items) }
-    ensures finished { IfOk result (λ called. called.is_finished ≡ true → Performed (arc_value scripted.now.tapes) (MadeGiving threads (arc_value scripted.now.tapes) scripted.now.script (D.told disk) (D.told called.disk) called.history.items (queues_of called.heard.items)) (D.told disk) (D.told called.disk) called.history.items) }
-    ensures enough { IfOk result (λ called. called.is_finished ≡ true → AreEnough called.history.items called.heard.items × (length called.heard.items ≤ 16)) }
-    ensures opens { IfErr result (λ e. Opens (D.told disk) (D.told e.1) e.0) }
-    ensures looks { IfErr result (λ e. IsUnchanged (D.told disk) (D.told e.1)) }
-    ensures goes { IfOk result (λ called. GoesOn (D.told disk) (D.told called.disk)) }
-    ensures goes_back { IfErr result (λ e. GoesOn (D.told disk) (D.told e.1)) }
-{
-    if threads {
-        return call_on_threads(rt, alloc, scripted, disk, gate);
-    }
-    call_lines(alloc, scripted, disk, gate)
 }
 
 // Makes the calls of a script, sets the files that they gave, and prints their history.
@@ -268,6 +194,7 @@ fn run_or_format<R: Threads + Wait + Sync, K: Shelf, O: Sink, D: Disk, G: Gate>(
     disk: D,
     gate: &G,
 ) -> Ended<D>
+    requires packets { IsNoPackets (map string_bytes words.now) }
     requires conversion { IsNoConversion (map string_bytes words.now) }
     requires audit { IsNoAudit (map string_bytes words.now) }
     requires notes { IsNoNotes (map string_bytes words.now) }
@@ -337,6 +264,7 @@ fn run_make_or_other<R: Threads + Wait + Sync, K: Shelf, O: Sink, D: Disk, G: Ga
     disk: D,
     gate: &G,
 ) -> Ended<D>
+    requires packets { IsNoPackets (map string_bytes words.now) }
     requires conversion { IsNoConversion (map string_bytes words.now) }
     requires audit { IsNoAudit (map string_bytes words.now) }
     requires notes { IsNoNotes (map string_bytes words.now) }
@@ -376,6 +304,7 @@ fn run_notes_or_other<R: Threads + Wait + Sync, K: Shelf, O: Sink, D: Disk, G: G
     disk: D,
     gate: &G,
 ) -> Ended<D>
+    requires packets { IsNoPackets (map string_bytes words.now) }
     requires conversion { IsNoConversion (map string_bytes words.now) }
     requires audit { IsNoAudit (map string_bytes words.now) }
     // The words are refused, or they say a command, whose promise holds.
@@ -414,7 +343,8 @@ fn run_audit_or_other<R: Threads + Wait + Sync, K: Shelf, O: Sink, D: Disk, G: G
     disk: D,
     gate: &G,
 ) -> Ended<D>
-    requires { IsNoConversion (map string_bytes words.now) }
+    requires packets { IsNoPackets (map string_bytes words.now) }
+    requires conversion { IsNoConversion (map string_bytes words.now) }
     // The words are refused, or they say a command, whose promise holds.
     ensures comes { Comes (map string_bytes words.now) (outside (K.files shelf.old) (K.faults shelf.old) (O.contents out.old) (O.faults out.old) (O.empty_takes out.old) (D.told disk)) (outside (K.files shelf.new) (K.faults shelf.new) (O.contents out.new) (O.faults out.new) (O.empty_takes out.new) (D.told result.disk)) result.status result.history.items }
     // The promise of whatever command the words say holds.
@@ -441,8 +371,8 @@ fn run_audit_or_other<R: Threads + Wait + Sync, K: Shelf, O: Sink, D: Disk, G: G
     run_notes_or_other(rt, alloc, words, shelf, out, disk, gate)
 }
 
-/// Does what the words say.
-pub fn run<R: Threads + Wait + Sync, K: Shelf, O: Sink, D: Disk, G: Gate>(
+// Makes one file of another, prints an audit, makes a census of what notes name, runs a script or formats the disk, as the words say.
+fn run_conversion_or_other<R: Threads + Wait + Sync, K: Shelf, O: Sink, D: Disk, G: Gate>(
     rt: &R,
     alloc: Global,
     words: &[String],
@@ -451,6 +381,7 @@ pub fn run<R: Threads + Wait + Sync, K: Shelf, O: Sink, D: Disk, G: Gate>(
     disk: D,
     gate: &G,
 ) -> Ended<D>
+    requires { IsNoPackets (map string_bytes words.now) }
     // The words are refused, or they say a command, whose promise holds.
     ensures comes { Comes (map string_bytes words.now) (outside (K.files shelf.old) (K.faults shelf.old) (O.contents out.old) (O.faults out.old) (O.empty_takes out.old) (D.told disk)) (outside (K.files shelf.new) (K.faults shelf.new) (O.contents out.new) (O.faults out.new) (O.empty_takes out.new) (D.told result.disk)) result.status result.history.items }
     // The promise of whatever command the words say holds.
@@ -482,4 +413,42 @@ pub fn run<R: Threads + Wait + Sync, K: Shelf, O: Sink, D: Disk, G: Gate>(
         disk,
         history: Vec::new(alloc),
     }
+}
+
+/// Does what the words say.
+pub fn run<R: Threads + Wait + Sync, K: Shelf, O: Sink, D: Disk, G: Gate>(
+    rt: &R,
+    alloc: Global,
+    words: &[String],
+    shelf: &mut K,
+    out: &mut O,
+    disk: D,
+    gate: &G,
+) -> Ended<D>
+    // The words are refused, or they say a command, whose promise holds.
+    ensures comes { Comes (map string_bytes words.now) (outside (K.files shelf.old) (K.faults shelf.old) (O.contents out.old) (O.faults out.old) (O.empty_takes out.old) (D.told disk)) (outside (K.files shelf.new) (K.faults shelf.new) (O.contents out.new) (O.faults out.new) (O.empty_takes out.new) (D.told result.disk)) result.status result.history.items }
+    // The promise of whatever command the words say holds.
+    ensures promise { (command : Command) → Says (map string_bytes words.now) command → Promises command (outside (K.files shelf.old) (K.faults shelf.old) (O.contents out.old) (O.faults out.old) (O.empty_takes out.old) (D.told disk)) (outside (K.files shelf.new) (K.faults shelf.new) (O.contents out.new) (O.faults out.new) (O.empty_takes out.new) (D.told result.disk)) result.status result.history.items }
+    // Usage comes exactly where the words are refused.
+    ensures usage { IsRefused (map string_bytes words.now) → result.status ≡ Status.Usage }
+    ensures refused { result.status ≡ Status.Usage → IsRefused (map string_bytes words.now) }
+    // What stands after any status: the front of the text that the sink took, but for packets, an audit and a generated script, and the files, but for packets, a conversion and a run; their promises say what becomes of them.
+    ensures prefix { IsNoPackets (map string_bytes words.now) → IsNoAudit (map string_bytes words.now) → IsNoMake (map string_bytes words.now) → IfSome (O.contents out.old) (λ had. (n : ℕ) × (O.contents out.new ≡ Some (had ++ take n (text_of result.history.items)))) }
+    ensures files { IsNoPackets (map string_bytes words.now) → IsNoConversion (map string_bytes words.now) → IsNoRun (map string_bytes words.now) → K.files shelf.new ≡ K.files shelf.old }
+    // A status that is decided before the first call leaves no history and prints nothing; one that is decided before the disk is touched leaves the disk.
+    ensures silent { IsSilent result.status → (result.history.items ≡ []) × (O.contents out.new ≡ O.contents out.old) }
+    ensures early { IsEarly result.status → result.disk ≡ disk }
+    // A status of the shelf's fault prints nothing, also where it comes after the calls.
+    ensures unprinted { result.status ≡ Status.ShelfFault → O.contents out.new ≡ O.contents out.old }
+    // Where no script is run, it comes before the disk is touched.
+    ensures shelf { IsNoPackets (map string_bytes words.now) → IsNoRun (map string_bytes words.now) → result.status ≡ Status.ShelfFault → (result.disk ≡ disk) × (result.history.items ≡ []) × (O.contents out.new ≡ O.contents out.old) }
+    // A conversion leaves the disk.
+    ensures apart { (way : WayValue) (source target : List ℕ) → IsConversion way (map string_bytes words.now) source target → result.disk ≡ disk }
+    // The disk keeps its size, and its counts never fall.
+    ensures disk { GoesOn (D.told disk) (D.told result.disk) }
+{
+    let Some(asked) = packets_words(words) else {
+        return run_conversion_or_other(rt, alloc, words, shelf, out, disk, gate);
+    };
+    packets(alloc, &asked, shelf, out, disk, gate)
 }

@@ -3,12 +3,13 @@
 ghost use Rattle.std.specs.Prelude.{ℕ, List, ◌≡◌, [], ◌∷◌, length, MatchOption, map, string_bytes, true, false};
 ghost use Rattle.script_lang.specs.Forms.{is_file};
 ghost use Rattle.voice_main.specs.Conversions.{way_word};
-ghost use Rattle.voice_main.specs.Words.{Says, run_command, IsNoRun, IsConversion, IsNoConversion, IsNotes, IsNoNotes, IsAudit, IsNoAudit, IsMake, IsNoMake};
+ghost use Rattle.voice_main.specs.Words.{Says, run_command, IsNoRun, IsConversion, IsNoConversion, IsNotes, IsNoNotes, IsAudit, IsNoAudit, IsMake, IsNoMake, IsPackets, IsNoPackets};
 ghost use Rattle.voice_main.specs.declared.convert.Way.{Way as WayValue};
 
 use crate::convert::{Conversion, Way};
 use crate::make::Making;
 use crate::numbers::{number, wide_number};
+use crate::packets::Sending;
 use script_lang::is_file;
 use voice_units::Name;
 
@@ -158,6 +159,47 @@ pub fn make_words(words: &[String]) -> Option<Making>
         return None;
     };
     making_of(verb.as_bytes(), seed.as_bytes(), lines.as_bytes())
+}
+
+// The words `packets SCRIPT FILE FIRST`.
+fn sending_of(verb: &[u8], script: &[u8], file: &[u8], first: &[u8]) -> Option<Sending>
+    ensures { MatchOption result (IsNoPackets (verb.now ∷ script.now ∷ file.now ∷ first.now ∷ [])) (λ s. IsPackets (verb.now ∷ script.now ∷ file.now ∷ first.now ∷ []) s.script s.file s.first) }
+{
+    if verb != b"packets".as_slice() {
+        return None;
+    }
+    let Some(script) = file_name(script) else {
+        return None;
+    };
+    let Some(file) = file_name(file) else {
+        return None;
+    };
+    let Some(first) = wide_number(first) else {
+        return None;
+    };
+    if first < 1 || first > 1 << 47 {
+        return None;
+    }
+    Some(Sending {
+        script,
+        file,
+        first,
+    })
+}
+
+/// The run whose packets the words ask for; `None` exactly for words that ask for none.
+pub fn packets_words(words: &[String]) -> Option<Sending>
+    ensures { MatchOption result (IsNoPackets (map string_bytes words.now)) (λ s. IsPackets (map string_bytes words.now) s.script s.file s.first) }
+{
+    let [verb, script, file, first] = words else {
+        return None;
+    };
+    sending_of(
+        verb.as_bytes(),
+        script.as_bytes(),
+        file.as_bytes(),
+        first.as_bytes(),
+    )
 }
 
 // The way of that word.
