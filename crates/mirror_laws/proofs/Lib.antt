@@ -6,3 +6,4 @@ pub mod Quiet
 pub mod Changing
 pub mod Commits
 pub mod Landing
+pub mod Promotion

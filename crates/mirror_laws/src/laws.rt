@@ -1,6 +1,7 @@
 //! Laws of when a mirror's disk stands for the changes that the mirror took, and how calls carry that. Each is the contract of a function over the moments of a disk; a proof above takes the lemma that proves it, for any two moments, from `proofs/`.
 
 ghost use Rattle.mirror_laws.specs.Foundations.{MirrorFoundations};
+ghost use Rattle.mirror_laws.specs.Promotion.{PromotionsTurn};
 ghost use Rattle.mirror_laws.specs.Laws.{OpeningHolds, StandingGives, LooksCarry, WritesCarry, AppendsCarry, SwitchesCarry, FailuresCarry, LandingsCarry};
 
 use mirror_readings::laws::{opens, rebuilds_base, rebuilds_more, rebuilds_valid};
@@ -69,6 +70,13 @@ pub fn failures_carry<D: Disk>(old: &D, new: &D)
 /// A landing takes the change that was in doubt, and a landing that failed leaves it in doubt.
 pub fn landings_carry<D: Disk>(old: &D, new: &D)
     ensures { LandingsCarry (D.told old.now) (D.told new.now) }
+{
+    foundations();
+}
+
+/// A switch to the plain base of what the mirror has makes its disk a voice disk with just that, at once or in doubt; where it fails before it counts the disk stays the mirror's.
+pub fn promotions_turn<D: Disk>(old: &D, new: &D)
+    ensures { PromotionsTurn (D.told old.now) (D.told new.now) }
 {
     foundations();
 }

@@ -2,7 +2,7 @@
 use Rattle.std.proofs.Common.{◌≡◌, ℕ, ◌≤◌, Bool, false, List, [], ◌∷◌, Some, None, IsTrue, refl, sym, ◌∙◌, ap, subst}
 use Rattle.std.specs.Prelude.{slice_get}
 use Rattle.voice_units.specs.declared.shapes.Shape.{Shape}
-use Rattle.voice_outside.specs.Disk.{Told}
+use Rattle.voice_outside.specs.Disk.{Told, Now}
 use Rattle.disk_areas.specs.Areas.{Record, Journal}
 use Rattle.voice_journal.specs.Looks.{Looks}
 use Rattle.voice_journal.specs.Opens as journals
@@ -10,7 +10,7 @@ use Rattle.voice_journal.specs.Parsed.{placed}
 use Rattle.voice_journal.specs.Places.{JournalValue}
 use Rattle.voice_journal.specs.Readings.{extent}
 use Rattle.voice_journal.specs.declared.opening.Opened.{Opened}
-use Rattle.voice_model.specs.Replay.{Rebuilt, nothing_rebuilt}
+use Rattle.voice_model.specs.Replay.{Rebuilt, nothing_rebuilt, recovered}
 use Rattle.recovery.specs.declared.parts.Parts.{Parts}
 use Rattle.recovery.specs.Replayed.{bytes_of, records_of}
 use Rattle.recovery.specs.Shown.{Rebuilds, IsParts, numbered}
@@ -48,8 +48,9 @@ refused_place bytes disk opening r is same not_first k place refused at =
 -- ---- a mirror that opens
 
 pub opens_as : (bytes : List ℕ) (disk : Told) (opening : Opened) (r : Journal) → journals.IsOpened bytes disk opening r → opening.journal.shape ≡ opening.shape → is_first_version bytes ≡ false
-    → (parts : Parts) (position : ℕ) (b : Rebuilt) → numbered_replayed (nothing_rebuilt opening.shape) (records_of opening.payloads) ≡ Numbered.All b position → Rebuilds parts b → IsOpened bytes disk opening.journal parts position
-opens_as bytes disk opening r is same not_first parts position b rebuilds shows =
+    → (parts : Parts) (position : ℕ) (b : Rebuilt) → numbered_replayed (nothing_rebuilt opening.shape) (records_of opening.payloads) ≡ Numbered.All b position → Rebuilds parts b
+    → disk.bytes ≡ bytes → Now disk (λ image. image ≡ bytes) → IsOpened bytes disk opening.journal parts position
+opens_as bytes disk opening r is same not_first parts position b rebuilds shows bytes_are settled =
     let two = readings.newest bytes r is.reads not_first in
     let rebuild : NumberedRebuild r b position = readings.numbered_all r b position (read_rebuilds bytes disk opening r is same (Numbered.All b position) rebuilds) in
     record {
@@ -57,7 +58,7 @@ opens_as bytes disk opening r is same not_first parts position b rebuilds shows 
       rebuilt = b;
       reads = readings.opens bytes r b position is.reads two rebuild;
       mirrored = readings.opened bytes r b position is.reads two rebuild;
-      follows = record { stands = is.stands; rebuild = rebuild; shows = shows; newest = two };
+      follows = record { stands = is.stands; rebuild = rebuild; shows = shows; newest = two; fills = λ image left. ap (λ (i : List ℕ). recovered i b) (settled image left ∙ sym bytes_are) };
     }
 
 -- payloads as a journal's records

@@ -4,7 +4,7 @@
 --     IsOpened bytes disk journal parts position      these bytes mean what a mirror keeps
 --     IsWhole origin disk journal parts position      what a mirror keeps at all times
 use Rattle.std.specs.Prelude.{◌≡◌, ℕ, ◌≤◌, List, None, Some, IsTrue}
-use Rattle.voice_outside.specs.Disk.{Told}
+use Rattle.voice_outside.specs.Disk.{Told, Now}
 use Rattle.voice_model.specs.Replay.{Rebuilt, recovered}
 use Rattle.disk_areas.specs.Areas.{Journal}
 use Rattle.voice_journal.specs.Readings.{extent}
@@ -21,12 +21,13 @@ pub record Shown (D : Type 0) : Type 0 where
   pub parts : Parts
   pub position : ℕ
 
--- the journal stands for r, whose numbered changes rebuild b, which the tables show, and end at the position
+-- the journal stands for r, whose numbered changes rebuild b, which the tables show, and end at the position; and whatever a crash leaves now has the same bytes in b's blocks
 pub record Follows (disk : Told) (journal : JournalValue) (parts : Parts) (position : ℕ) (r : Journal) (b : Rebuilt) : Type 0 where
   pub stands : Stands journal disk r
   pub rebuild : NumberedRebuild r b position
   pub shows : Rebuilds parts b
   pub newest : r.shape.version ≡ 2
+  pub fills : Now disk (λ image. recovered image b ≡ recovered disk.bytes b)
 
 -- these bytes mean what a mirror keeps
 pub record IsOpened (bytes : List ℕ) (disk : Told) (journal : JournalValue) (parts : Parts) (position : ℕ) : Type 0 where

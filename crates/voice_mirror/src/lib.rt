@@ -4,9 +4,13 @@
 mod front;
 mod mirror;
 mod opening;
+mod promoting;
 
 pub use mirror::Mirror;
+pub use promoting::PromoteError;
 pub use voice_journal::OpenError;
 
+#[cfg(test)]
+mod promotions;
 #[cfg(test)]
 mod tests;

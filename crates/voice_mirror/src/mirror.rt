@@ -18,11 +18,11 @@ use voice_outside::Disk;
 /// A mirror over a disk: the tables that its numbered changes rebuild, and its position, the number of the last one. Contracts see these, its journal, the disk, and the disk as it was opened.
 #[derive(Drop)]
 pub struct Mirror<D: Disk> {
-    disk: D,
-    origin: Snapshot<D>,
-    journal: Journal,
-    parts: Parts,
-    position: u64,
+    pub(crate) disk: D,
+    pub(crate) origin: Snapshot<D>,
+    pub(crate) journal: Journal,
+    pub(crate) parts: Parts,
+    pub(crate) position: u64,
 }
 
 impl<D: Disk> Model for Mirror<D> {

@@ -45,10 +45,16 @@ pub returns-clause-reads : goal.returns-clause-reads
 returns-clause-reads g c =
     λ honest.
     let old = g.D.Disk.told c.args.disk.now in
+    let middle = g.D.Disk.told c.refuse_first.new.disk in
     let new = g.D.Disk.told c.open.new.disk in
+    let laws = g.met.D.Disk g.world.𝓛 g.world.𝓜 g.world.𝓡 ((λ s x. x), (λ x. x), (λ x. x), λ x. x) in
     let looks = c.refuse_first.ensures.looks in
     let opening : Opened = c.in_ok-shape.field-0 in
     let found = c.in_ok-parts.ensures.ok in
     let same = (looks.still honest).bytes in
-    let reads = c.in_ok-shape.ensures.reads (subst (λ (x : Bool). IsTrue x) (sym looks.honest) honest) in
+    let still_honest = subst (λ (x : Bool). IsTrue x) (sym looks.honest) honest in
+    let reads = c.in_ok-shape.ensures.reads still_honest in
+    let since = c.in_ok-shape.ensures.since still_honest in
     opens_as old.bytes new opening reads.0 (subst (λ (bytes : List ℕ). journals.IsOpened bytes new opening reads.0) same reads.1) c.in_ok-shape.ensures.same (c.in_ok-refuse_first.ensures.ok honest) _ _ found.0 found.1 found.2
+    ((c.open.ensures.looks.still still_honest).bytes ∙ same)
+    (λ image left. since image (laws.since c.open.new.disk (middle.calls + 1) new.calls image c.in_ok-shape.ensures.moment left) ∙ same)
