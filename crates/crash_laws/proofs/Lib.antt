@@ -10,3 +10,4 @@ pub mod Commits
 pub mod Landing
 pub mod Blocks
 pub mod Writing
+pub mod Spared

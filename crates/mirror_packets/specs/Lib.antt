@@ -1,3 +1,4 @@
 pub mod Packets
 pub mod Shown
 pub mod Laws
+pub mod Effects

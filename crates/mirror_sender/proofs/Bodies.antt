@@ -20,7 +20,7 @@ use Rattle.ready_changes.specs.declared.Act.{Act}
 use Rattle.ready_changes.specs.declared.Act.TheVariants as acts
 use Rattle.ready_changes.specs.declared.ReadyChange.{ReadyChange}
 use Rattle.next_ropes.proofs.Readied.{recorded_samples}
-use Rattle.mirror_sender.specs.Sent.{body_of_effect}
+use Rattle.mirror_packets.specs.Effects.{body_of_effect}
 use Rattle.mirror_sender.specs.Coming.{IsEdit, IsVoice, IsNextOf, body_size, bytes_taken}
 use Rattle.mirror_sender.specs.declared.coming.Next.{Next}
 use Rattle.mirror_sender.specs.declared.coming.Next.TheVariants as nexts

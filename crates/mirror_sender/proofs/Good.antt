@@ -15,7 +15,8 @@ use Rattle.voice_model.specs.declared.calls.Row.{Row}
 use Rattle.voice_model.proofs.KeptByChanges.{every-append, every-map, every-filter}
 use Rattle.voice_model.proofs.StatesKept.{state_kept}
 use Rattle.mirror_packets.specs.Packets.{AreGood}
-use Rattle.mirror_sender.specs.Sent.{sent, sent_by, answered_effect, effect_in_doubt, unless_refused, with_effect, changes_of, packets_from}
+use Rattle.mirror_packets.specs.Effects.{packets_from}
+use Rattle.mirror_sender.specs.Sent.{sent, sent_by, answered_effect, effect_in_doubt, unless_refused, with_effect, changes_of}
 use Rattle.mirror_sender.specs.Abreast.{AreWithin}
 use Rattle.mirror_sender.specs.Laws.{AreInFiles, HaveFiles, HasFiles, IsGoodEffect, IsGoodDoubt, MayBeGood, IsSmall, AreSmall}
 use Rattle.mirror_sender.proofs.Grammar.{id_test, made_good}

@@ -22,7 +22,8 @@ use Rattle.recovery.specs.declared.parts.Parts.{Parts}
 use Rattle.mirror_sender.specs.declared.sender.Sender.{Sender}
 use Rattle.mirror_sender.specs.declared.recordings.Added.{Added}
 use Rattle.mirror_sender.specs.declared.coming.Next.{Next}
-use Rattle.mirror_sender.specs.Sent.{answered_effect, unless_refused, effect_in_doubt, packet_of_effect}
+use Rattle.mirror_packets.specs.Effects.{packet_of_effect}
+use Rattle.mirror_sender.specs.Sent.{answered_effect, unless_refused, effect_in_doubt}
 use Rattle.mirror_sender.specs.Told.{IsTold, IsLike, changed_by}
 use Rattle.mirror_sender.specs.Coming.{IsNextOf, IsSomeNext, IsMaybeNext, MayBeNextOf, CanBeDone, bytes_taken}
 use Rattle.mirror_sender.specs.Abreast.{takes_on, others_than, AreAdded, IsDoubt, IsSound, IsSoundBy, IsAbreast, IsAbreastBy, Asks, MayChange, MayAnswer, MayHold, MayBeAnswered, HasChanged, Follows, doubted, only_changes, IsLeft}

@@ -8,7 +8,8 @@ use Rattle.voice_model.specs.Valid.{InRange}
 use Rattle.voice_model.specs.declared.calls.Entry.{Entry}
 use Rattle.mirror_packets.specs.Packets.{Packet, packet_spelling, packets_spelling}
 use Rattle.mirror_sender.specs.declared.sender.Sender.{Sender}
-use Rattle.mirror_sender.specs.Sent.{sent, packet_of_effect, packets_of, packets_from, changes_of, with_effect}
+use Rattle.mirror_packets.specs.Effects.{packet_of_effect, packets_from}
+use Rattle.mirror_sender.specs.Sent.{sent, packets_of, changes_of, with_effect}
 use Rattle.mirror_sender.specs.Abreast.{IsAbreast, IsWithin, AreWithin, MayNote, Follows, FollowsAll, FollowsSome}
 use Rattle.mirror_sender.proofs.Lists.{every_get}
 

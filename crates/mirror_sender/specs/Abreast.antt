@@ -40,7 +40,8 @@ use Rattle.mirror_sender.specs.declared.recordings.Added.{Added}
 use Rattle.mirror_sender.specs.declared.noting.Course.{Course}
 use Rattle.mirror_sender.specs.declared.noting.Course.TheVariants as courses
 use Rattle.mirror_sender.specs.declared.sender.Sender.{Sender}
-use Rattle.mirror_sender.specs.Sent.{packets_of, packets_from, changes_of}
+use Rattle.mirror_packets.specs.Effects.{packets_from}
+use Rattle.mirror_sender.specs.Sent.{packets_of, changes_of}
 use Rattle.mirror_sender.specs.Told.{IsLike, IsTold, changed_by}
 use Rattle.mirror_sender.specs.Coming.{bytes_taken, IsNextOf, IsMaybeNext}
 

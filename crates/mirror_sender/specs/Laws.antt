@@ -18,7 +18,8 @@ use Rattle.voice_model.specs.declared.calls.Call.{Call}
 use Rattle.voice_model.specs.declared.calls.Call.TheVariants as calls
 use Rattle.voice_model.specs.declared.calls.Entry.{Entry}
 use Rattle.mirror_packets.specs.Packets.{IsGoodBody, AreGood}
-use Rattle.mirror_sender.specs.Sent.{body_of_effect, changes_of, packets_from}
+use Rattle.mirror_packets.specs.Effects.{body_of_effect, packets_from}
+use Rattle.mirror_sender.specs.Sent.{changes_of}
 use Rattle.mirror_sender.specs.Abreast.{AreWithin}
 
 -- a place of a file with a number from 1 to 2^48, below 2^30

@@ -8,7 +8,7 @@ ghost use Rattle.voice_model.specs.State.{Durable, Effect};
 ghost use Rattle.voice_model.specs.Spelling.{piece_bytes, pieces_bytes, spelling};
 ghost use Rattle.voice_model.specs.declared.changes.Change.TheVariants as changes;
 ghost use Rattle.mirror_packets.specs.Packets.{packet_spelling, body_spelling, Body};
-ghost use Rattle.mirror_sender.specs.Sent.{packet_of_effect, body_of_effect};
+ghost use Rattle.mirror_packets.specs.Effects.{packet_of_effect, body_of_effect};
 ghost use Rattle.mirror_sender.specs.Coming.{IsNextOf, HasTakes, bytes_taken, body_size};
 
 use crate::coming::Next;

@@ -14,7 +14,8 @@ use Rattle.voice_outside.specs.Disk.{Told}
 use Rattle.voice_outside.specs.Files.{Files, SameElsewhere}
 use Rattle.mirror_sender.specs.declared.sender.Sender.{Sender}
 use Rattle.mirror_sender.specs.Abreast.{IsAbreast}
-use Rattle.mirror_sender.specs.Sent.{changes_of, packets_from}
+use Rattle.mirror_packets.specs.Effects.{packets_from}
+use Rattle.mirror_sender.specs.Sent.{changes_of}
 use Rattle.mirror_packets.specs.Packets.{packets_spelling}
 use Rattle.script_lang.specs.Shown.{Reading}
 use Rattle.served_files.specs.declared.heard.Heard.{Heard}

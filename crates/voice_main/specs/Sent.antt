@@ -18,7 +18,8 @@ use Rattle.voice_model.specs.Step.{Legal, after}
 use Rattle.voice_model.specs.Text.{text_of}
 use Rattle.mirror_packets.specs.Packets.{packets_spelling}
 use Rattle.mirror_sender.specs.declared.sender.Sender.{Sender}
-use Rattle.mirror_sender.specs.Sent.{changes_of, packets_from}
+use Rattle.mirror_packets.specs.Effects.{packets_from}
+use Rattle.mirror_sender.specs.Sent.{changes_of}
 use Rattle.mirror_sender.specs.Abreast.{IsAbreast}
 use Rattle.script_lang.specs.Shown.{Reading}
 use Rattle.served_files.specs.Files.{Queues, files_set, SetInto}

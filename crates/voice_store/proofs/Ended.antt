@@ -49,7 +49,7 @@ use Rattle.voice_store.specs.Facts.{MayCommit}
 use Rattle.voice_store.specs.Ends.{HoldsEnding, ended_by, last_bytes, whole_in, last_addresses}
 use Rattle.voice_store.proofs.Kept.{is_sure, same_number, same_shape}
 use Rattle.voice_store.proofs.Taking.{later_fill, later_other, brings_recording}
-use Rattle.voice_store.proofs.Spared.{distinct_at}
+use Rattle.crash_laws.proofs.Spared.{distinct_at}
 use Rattle.voice_store.proofs.Endable.{ending_free}
 use Rattle.voice_store.proofs.Closing.{total_shown, closed_ended, lanes_closed, ending_may}
 use Rattle.voice_store.proofs.LastBlock.{last_is}

@@ -38,7 +38,7 @@ use Rattle.next_ropes.specs.Addresses.{KeepsAddresses, HandsOut}
 use Rattle.recording_adds.specs.Adds.{HasWhole}
 use Rattle.voice_store.specs.Filled.{IsFilled, HaveBytes, IsPadded}
 use Rattle.voice_store.specs.Playing.{KeepsTakings}
-use Rattle.voice_store.proofs.Spared.{outside_of}
+use Rattle.crash_laws.proofs.Spared.{outside_of}
 use Rattle.voice_store.proofs.Taking.{later_fill, later_other, later_here}
 
 -- ---- bytes behind the areas

@@ -43,7 +43,6 @@ pub mod Ended
 pub mod LastWritten
 pub mod Spare
 pub mod StillReady
-pub mod Spared
 pub mod Switched
 pub mod Taking
 pub mod Tried

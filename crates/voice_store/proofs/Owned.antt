@@ -41,7 +41,7 @@ use Rattle.voice_store.proofs.Played.{playing_as_honest}
 use Rattle.voice_store.proofs.Pushed.{as_honest}
 use Rattle.voice_store.proofs.Refused.{wrong}
 use Rattle.voice_store.proofs.Settled.{none_some, shape_of}
-use Rattle.voice_store.proofs.Spared.{outside_of, spares_within}
+use Rattle.crash_laws.proofs.Spared.{outside_of, spares_within}
 
 -- ---- places and their addresses
 

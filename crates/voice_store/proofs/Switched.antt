@@ -1,5 +1,5 @@
 -- A change that is written as a base: what that leaves once it has landed.
-use Rattle.std.proofs.Common.{◌≡◌, ℕ, ◌+◌, ◌-◌, ◌≤◌, ◌<◌, ◌==◌, List, [], ◌++◌, ◌∷◌, map, Bool, true, false, cond, ◌||◌, is_some, IsTrue, refl, sym, ◌∙◌, ap, subst, arith}
+use Rattle.std.proofs.Common.{◌≡◌, ℕ, ◌+◌, ◌-◌, ◌≤◌, ◌<◌, ◌==◌, List, [], ◌++◌, ◌∷◌, map, Bool, true, false, cond, ◌||◌, IsTrue, refl, sym, ◌∙◌, ap, subst, arith}
 use Rattle.std.specs.Prelude.{nat_le}
 use Rattle.voice_units.specs.declared.pieces.Piece.{Piece}
 use Rattle.voice_outside.specs.Disk.{Told}
@@ -12,7 +12,7 @@ use Rattle.voice_model.specs.Changes.{committed, changed, frame_size, base_size,
 use Rattle.voice_model.specs.Spelling.{spelling}
 use Rattle.voice_model.specs.Step.{state_after}
 use Rattle.voice_units.specs.Spots.{Spot}
-use Rattle.voice_model.specs.Replay.{used_pairs, Rebuilt, acted, durable_by, brings, recovered}
+use Rattle.voice_model.specs.Replay.{used_pairs, Rebuilt, acted, durable_by, recovered}
 use Rattle.voice_model.specs.Base.{base_of}
 use Rattle.voice_model.specs.Base as changes
 use Rattle.voice_model.specs.Places.{IsPlaced, AllUsed}
@@ -23,7 +23,6 @@ use Rattle.voice_model.specs.declared.calls.Reply.{Reply}
 use Rattle.voice_model.specs.declared.calls.Reply.TheVariants as replies
 use Rattle.voice_model.specs.declared.calls.Why.TheVariants as why
 use Rattle.voice_model.specs.declared.changes.Change.{Change}
-use Rattle.voice_model.specs.declared.changes.Change.TheVariants as kinds
 use Rattle.voice_model.proofs.BaseSize.{base_sized}
 use Rattle.journal_readings.specs.Readings.{Rebuild}
 use Rattle.journal_readings.proofs.Replays as replays
@@ -44,28 +43,12 @@ use Rattle.voice_store.specs.declared.committing.Plan.TheVariants as plans
 use Rattle.voice_store.specs.Stood.{tapes_of, last_of, in_form, Fills, IsSeated}
 use Rattle.voice_store.specs.Ways.{FitsOther}
 use Rattle.voice_store.specs.Trying.{Trying, IsBaseOf, IsPlan, CanGo, place_of}
+use Rattle.recovery.proofs.Rebuilding.{acted_shape}
 use Rattle.voice_store.proofs.Bases.{above_leb}
 use Rattle.rope_table.specs.Table.{pairs_in}
 use Rattle.voice_store.proofs.Played.{changed_shape}
 use Rattle.voice_store.proofs.Appended.{committed_by, appended}
 use Rattle.voice_store.proofs.Planned.{Planned, known, closed, done, said, next_done, waits}
-
--- a change that has an effect keeps the shape
-pub acted_shape : (b : Rebuilt) (c : Change) → is_some (brings c) ≡ true → (acted b c).shape ≡ b.shape
-acted_shape b (kinds.Recorded id len addresses) is = refl
-acted_shape b (kinds.Wide id len addresses) is = refl
-acted_shape b (kinds.Edited id pieces) is = refl
-acted_shape b (kinds.Retained class key id note) is = refl
-acted_shape b (kinds.Forgotten class key) is = refl
-acted_shape b (kinds.Census keys) is = refl
-acted_shape b (kinds.Swept ids) is = refl
-acted_shape b (kinds.Advanced moment) is = refl
-acted_shape b (kinds.Base now next) is = cc
-acted_shape b (kinds.Base2 now next) is = cc
-acted_shape b (kinds.File file pairs) is = cc
-acted_shape b (kinds.File2 file pairs) is = cc
-acted_shape b (kinds.Rope id idle pieces) is = cc
-acted_shape b (kinds.Rope2 id idle last pieces) is = cc
 
 -- where the frame does not fit, a base goes into the other area
 pub fits_other : (s : State) (effect : Effect Tagged) → s.left < frame_size s.form s.kept.shape.block effect → committed s s.form effect ≡ committed_by false s effect
@@ -161,7 +144,7 @@ module _ {first : State} {t0 : ℕ} {old : Told} {s : Inside} {b : Rebuilt} {goi
     placed = is_base.placed;
     used = is_base.used;
     can = is_base.can;
-    in_shape = acted_shape b c (known tr).kind;
+    in_shape = acted_shape b c;
     does = tr.does h;
   }
 

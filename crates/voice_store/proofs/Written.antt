@@ -70,7 +70,7 @@ use Rattle.voice_store.proofs.Pushed.{as_honest}
 use Rattle.voice_store.proofs.Played.{playing_by, playing_later, playing_as_honest}
 use Rattle.voice_store.proofs.Making.{IsMaking, may_commit}
 use Rattle.voice_store.proofs.Recordable.{many as taken_as, recording_free}
-use Rattle.voice_store.proofs.Spared.{below_at, free_at, distinct_at, spares_within}
+use Rattle.crash_laws.proofs.Spared.{below_at, free_at, distinct_at, spares_within}
 use Rattle.voice_store.proofs.Taking.{later_fill, later_spots, kept_before, brings_recording}
 
 -- a recording makes a rope and does nothing else

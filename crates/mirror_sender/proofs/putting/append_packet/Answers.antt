@@ -1,7 +1,7 @@
 use Rattle.std.proofs.Common.{◌≡◌, ◌++◌, length, sym, ◌∙◌, ap, ap₂, append_assoc}
 use Rattle.disk_areas.specs.Numbers.{number_bytes}
 use Rattle.mirror_packets.specs.Packets.{body_spelling}
-use Rattle.mirror_sender.specs.Sent.{body_of_effect}
+use Rattle.mirror_packets.specs.Effects.{body_of_effect}
 use Rattle.mirror_sender.proofs.Bodies.{body_long}
 use Rattle.mirror_sender.proofs.putting.append_packet.Goals as goal
 

@@ -6,7 +6,7 @@ use Rattle.voice_model.specs.Changes.{effect_of, changed}
 use Rattle.mirror_packets.specs.Packets.{packet_spelling}
 use Rattle.mirror_sender.specs.declared.sender.Sender.{Sender}
 use Rattle.mirror_sender.specs.declared.recordings.Added.{Added}
-use Rattle.mirror_sender.specs.Sent.{packet_of_effect}
+use Rattle.mirror_packets.specs.Effects.{packet_of_effect}
 use Rattle.mirror_sender.specs.Abreast.{AreAdded}
 use Rattle.mirror_sender.specs.Told.{IsTold}
 use Rattle.mirror_sender.specs.Coming.{IsMaybeNext, MayBeNextOf, CanBeDone}

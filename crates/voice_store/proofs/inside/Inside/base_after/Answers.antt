@@ -5,7 +5,7 @@ use Rattle.voice_model.specs.Replay.{acted}
 use Rattle.running_tables.proofs.Quiet.{spelled}
 use Rattle.voice_store.proofs.OnItsWay.{going_again, on_its_way}
 use Rattle.voice_store.specs.Trying.{IsBaseOf}
-use Rattle.voice_store.proofs.Switched.{acted_shape}
+use Rattle.recovery.proofs.Rebuilding.{acted_shape}
 use Rattle.voice_store.proofs.inside.Inside.base_after.Goals as goal
 
 pub tables_after-requires : goal.tables_after-requires
@@ -21,4 +21,4 @@ returns c =
     λ held takings more b c' ready shape.
     let here = shape ∙ sym c.shape-shape.ensures in
     subst (λ (x : Shape). IfOk c.base_of.result (IsBaseOf x (acted b c'))) c.shape-shape.ensures
-    (c.base_of.ensures (acted b c') (spelled held [] more c.in_ok-after.after (acted b c') (c.in_ok-after.ensures held takings more b c' ready here)) (acted_shape b c' (on_its_way held takings more c.args.self.now.parts b c.args.going.now c' ready).kind ∙ here))
+    (c.base_of.ensures (acted b c') (spelled held [] more c.in_ok-after.after (acted b c') (c.in_ok-after.ensures held takings more b c' ready here)) (acted_shape b c' ∙ here))

@@ -16,7 +16,9 @@ use Rattle.voice_model.specs.Places.{AllUsed}
 use Rattle.recovery.proofs.Rebuilding.{filter_all}
 use Rattle.recording_writer.specs.Wrote.{LiesOutside, SameOutside, WroteAt, AreBelow, AreDistinct}
 use Rattle.crash_laws.specs.Calls.{Spares, SparesWithin}
-use Rattle.voice_store.proofs.Refused.{wrong}
+
+wrong : false ≡ true → ⊥
+wrong e = cc
 
 -- ---- addresses
 
