@@ -1,0 +1,4 @@
+pub mod Followed
+pub mod Bodies
+pub mod Taken
+pub mod Growing
