@@ -1,5 +1,17 @@
 pub mod Fronts
 pub mod Looking
 pub mod Refusals
+pub mod Results
+pub mod ReadBack
+pub mod Landed
+pub mod Committed
+pub mod Judged
+pub mod Growing
+pub mod Served
 pub mod Opened
 pub mod Promoted
+pub mod Planning
+pub mod Bodies
+pub mod Put
+pub mod Fronted
+pub mod Answering

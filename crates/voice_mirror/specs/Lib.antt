@@ -1,2 +1,5 @@
 pub mod Shown
+pub mod Taking
+pub mod Ready
+pub mod Serving
 pub mod Promoting

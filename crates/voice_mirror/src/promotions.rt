@@ -109,7 +109,11 @@ fn followed(alloc: Global, recordings: u8, fails: Vec<u64>) -> Result<Option<Mem
 // The position of a mirror that opens, or the place of the damage.
 fn position(alloc: Global, disk: MemDisk) -> Result<u64, u64> {
     match Mirror::open(alloc, disk) {
-        Ok(mirror) => Ok(mirror.position()),
+        Ok(mirror) => {
+            let position = mirror.position();
+            let _disk = mirror.close();
+            Ok(position)
+        }
         Err((OpenError::BadDisk(place), _disk)) => Err(place),
         Err((_, _disk)) => Err(u64::MAX),
     }
@@ -125,7 +129,7 @@ fn promoted(
         return Ok(None);
     };
     match Mirror::open(alloc, disk) {
-        Ok(mirror) => Ok(Some(mirror.promote(alloc))),
+        Ok(mirror) => Ok(Some(mirror.promote())),
         Err((_, _disk)) => Ok(None),
     }
 }

@@ -107,7 +107,11 @@ fn append(disk: &mut MemDisk, journal: &mut Journal, payload: &[u8]) -> bool {
 // What opening came to.
 fn answer(opened: Result<Mirror<MemDisk>, (OpenError, MemDisk)>) -> Came {
     match opened {
-        Ok(mirror) => Came::At(mirror.position()),
+        Ok(mirror) => {
+            let position = mirror.position();
+            let _disk = mirror.close();
+            Came::At(position)
+        }
         Err((OpenError::BadDisk(place), _disk)) => Came::Bad(place),
         Err((OpenError::DiskFault, _disk)) => Came::Fault,
         Err((OpenError::NoMemory, _disk)) => Came::Unfit,

@@ -6,5 +6,4 @@ invariant_of-result g c =
     let old = g.D.Disk.told c.args.disk in
     let new = g.D.Disk.told c.open.new.disk in
     let facts = c.in-Ok.ensures in
-    whole_by_copy (λ d. g.D.Disk.told d) c.of-origin.result.value c.args.disk new c.in-Ok.field-0.journal c.in-Ok.field-0.parts c.in-Ok.field-0.position c.of-origin.ensures
-    (whole old new c.in-Ok.field-0.journal c.in-Ok.field-0.parts c.in-Ok.field-0.position c.open.ensures.looks facts.fits facts.sure facts.tables facts.reads)
+    whole_by_copy (λ d. g.D.Disk.told d) c.of-origin.result.value c.args.disk new c.in-Ok.inside c.of-origin.ensures (whole old new c.in-Ok.inside c.open.ensures.looks facts.standing facts.reads)

@@ -1,0 +1,151 @@
+-- Packets that were served, one more each time.
+use Rattle.std.proofs.Common.{◌≡◌, inl, inr, ℕ, zero, suc, ◌+◌, ◌<◌, ◌≤◌, ◌^◌, ◌-◌, Bool, List, [], ◌∷◌, ◌++◌, length, take, get_or, Option, Result, refl, sym, ◌∙◌, ap, subst, arith}
+use Rattle.voice_outside.specs.Disk.{Told}
+use Rattle.voice_outside.specs.Counters.{HasRisen}
+use Rattle.mirror_packets.specs.Packets.{Packet}
+use Rattle.voice_mirror.specs.declared.answers.Taken.{Taken}
+use Rattle.voice_mirror.specs.declared.answers.Taken.TheVariants.{Done, Again, Early, Strange, NoRoom, JournalFull, DiskFault, InDoubt}
+use Rattle.voice_mirror.specs.Shown.{MirrorState}
+use Rattle.voice_mirror.specs.Taking.{Judges}
+use Rattle.voice_mirror.specs.Ready.{IsOfDevice}
+use Rattle.std.specs.Prelude.{IsTrue}
+use Rattle.voice_model.specs.Samples.{Tagged}
+use Rattle.voice_model.specs.State.{Durable, Effect}
+use Rattle.voice_model.specs.Valid.{Every}
+use Rattle.voice_units.specs.declared.errors.NoMemory.{NoMemory}
+use Rattle.mirror_laws.specs.Standing.{Took}
+use Rattle.mirror_packets.specs.Packets.{IsGoodPacket}
+use Rattle.mirror_packets.specs.Shown.{packet_of, packets_of}
+use Rattle.mirror_packets.specs.declared.packets.Packet as declared
+use Rattle.mirror_effects.specs.Fronts.{AreLegal, AreOutOf, IsPacketOf}
+use Rattle.mirror_effects.specs.Laws.{BodiesDo, MayBeTaken, FrontsGrow}
+use Rattle.voice_mirror.specs.declared.inside.Inside.{Inside}
+use Rattle.voice_mirror.specs.Shown.{IsStanding, Keeps, KeepsSome, state_of}
+use Rattle.voice_mirror.specs.Taking.{TakesOr}
+use Rattle.voice_mirror.specs.Promoting.{Goes}
+use Rattle.voice_mirror.specs.Serving.{Serves, of_device, device_answers, HaveRisen, GoesOn, HasFront}
+use Rattle.voice_mirror.proofs.Growing.{some_more, front_more}
+
+-- one packet more
+pub serves_more : (s m t : MirrorState) (packets : List Packet) (answers : List Taken) (packet : Packet) (answer : Taken) → Serves s packets answers m → Judges m packet answer t → Serves s (packets ++ packet ∷ []) (answers ++ answer ∷ []) t
+serves_more s m t [] [] packet answer is judges = (t, subst (λ (x : MirrorState). Judges x packet answer t) is judges, refl)
+serves_more s m t [] (a ∷ answers) packet answer is judges = absurd is
+serves_more s m t (p ∷ packets) [] packet answer is judges = absurd is
+serves_more s m t (p ∷ packets) (a ∷ answers) packet answer is judges = (is.0, is.1, serves_more is.0 m t packets answers packet answer is.2 judges)
+
+device_more : (answers : List Taken) (answer : Taken) → device_answers (answers ++ answer ∷ []) ≡ device_answers answers + of_device answer
+device_more [] answer = omega arith
+device_more (a ∷ answers) answer = let rest = device_more answers answer in omega (arith, rest)
+
+-- an answer of the device counts where the faults rose
+one_risen : (answer : Taken) (old new : ℕ) → old ≤ new → (IsOfDevice answer → HasRisen old new) → new < 2 ^ 64 - 1 → old + of_device answer ≤ new
+one_risen Done old new le risen low = omega (arith, le)
+one_risen Again old new le risen low = omega (arith, le)
+one_risen (Early position) old new le risen low = omega (arith, le)
+one_risen Strange old new le risen low = omega (arith, le)
+one_risen (NoRoom need free) old new le risen low = omega (arith, le)
+one_risen (JournalFull need left) old new le risen low = omega (arith, le)
+one_risen DiskFault old new le risen low = let more = risen (inl refl) low in omega (arith, more)
+one_risen InDoubt old new le risen low = let more = risen (inr refl) low in omega (arith, more)
+
+pub risen_more : (answers : List Taken) (answer : Taken) (old mid new : ℕ) → HaveRisen answers old mid → mid ≤ new → (IsOfDevice answer → HasRisen mid new) → HaveRisen (answers ++ answer ∷ []) old new
+risen_more answers answer old mid new have le risen low =
+    let more = device_more answers answer in
+    let before = have (omega (arith, le, low)) in
+    let one = one_risen answer mid new le risen low in
+    omega (arith, more, before, one)
+
+pub risen_none : (old : ℕ) → HaveRisen [] old old
+risen_none old low = omega arith
+
+-- ---- packets so far
+
+-- what a run of packets has come to, where the disk was `old` and the mirror s
+pub record Serving (old new : Told) (s t : Inside) (packets : List Packet) (answers : List Taken) : Type 0 where
+  pub goes : GoesOn old new
+  pub standing : IsStanding new.size t
+  pub served : Serves (state_of s) packets answers (state_of t)
+  pub faults : HaveRisen answers old.faults new.faults
+  pub some : IsTrue old.honest → KeepsSome old (state_of s) → KeepsSome new (state_of t)
+  pub fronts : IsTrue old.honest → (start : Durable Tagged) (effects : List (Effect Tagged)) (first : Durable Tagged) (from t0 : ℕ) → AreLegal start effects → AreOutOf effects packets → HasFront start effects first from t0 old (state_of s) → HasFront start effects first from t0 new (state_of t)
+
+pub none_served : (old : Told) (s : Inside) → IsStanding old.size s → Serving old old s s [] []
+none_served old s standing = record {
+  goes = record { size = refl; honest = refl; later = omega arith; faults = omega arith };
+  standing = standing;
+  served = refl;
+  faults = risen_none old.faults;
+  some = λ honest some. some;
+  fronts = λ honest start effects first from t0 legal of has. has;
+}
+
+-- packets out of a list, and one more
+front_of_more : (effects : List (Effect Tagged)) (packets : List Packet) (packet : Packet) → AreOutOf effects (packets ++ packet ∷ []) → AreOutOf effects packets × IsPacketOf effects packet
+front_of_more effects [] packet of = (tt, of.0)
+front_of_more effects (p ∷ packets) packet of = let rest = front_of_more effects packets packet of.1 in ((of.0, rest.0), rest.1)
+
+module _ (bodies : BodiesDo) (may : MayBeTaken) (grow : FrontsGrow) (old mid new : Told) (s m t : Inside) (packets : List Packet) (answers : List Taken) (packet : Packet) (most : ℕ)
+    (before : Serving old mid s m packets answers) (goes : Goes most mid new) (standing : IsStanding new.size t) (result : Result Taken NoMemory)
+    (takes : IsTrue mid.honest → (first : Durable Tagged) (from t0 : ℕ) (taken : List Took) (doubt : Option (Effect Tagged)) → Keeps first from t0 taken doubt mid (state_of m) → TakesOr first from t0 taken doubt new (state_of t) packet result) where
+  pub goes_then : GoesOn old new
+  goes_then =
+      let later = before.goes.later in
+      let more = goes.later in
+      let faults = before.goes.faults in
+      let risen = goes.faults in
+      record { size = goes.size ∙ before.goes.size; honest = goes.honest ∙ before.goes.honest; later = omega (arith, later, more); faults = omega (arith, faults, risen) }
+
+  honest_then : IsTrue old.honest → IsTrue mid.honest
+  honest_then honest = subst (λ (x : Bool). IsTrue x) (sym before.goes.honest) honest
+
+  pub some_then : IsTrue old.honest → KeepsSome old (state_of s) → KeepsSome new (state_of t)
+  some_then honest some = some_more mid new (state_of m) (state_of t) packet result (takes (honest_then honest)) (before.some honest some)
+
+  pub fronts_then : IsTrue old.honest → (start : Durable Tagged) (effects : List (Effect Tagged)) (first : Durable Tagged) (from t0 : ℕ) → AreLegal start effects → AreOutOf effects (packets ++ packet ∷ []) → HasFront start effects first from t0 old (state_of s) → HasFront start effects first from t0 new (state_of t)
+  fronts_then honest start effects first from t0 legal of has =
+      let parts = front_of_more effects packets packet of in
+      front_more bodies may grow start effects legal packet parts.1 mid new (state_of m) (state_of t) result (takes (honest_then honest)) first from t0 (before.fronts honest start effects first from t0 legal parts.0 has)
+
+  pub served_more : (answer : Taken) → Judges (state_of m) packet answer (state_of t) → (IsOfDevice answer → HasRisen mid.faults new.faults) → Serving old new s t (packets ++ packet ∷ []) (answers ++ answer ∷ [])
+  served_more answer judges risen = record {
+    goes = goes_then;
+    standing = standing;
+    served = serves_more (state_of s) (state_of m) (state_of t) packets answers packet answer before.served judges;
+    faults = risen_more answers answer old.faults mid.faults new.faults before.faults goes.faults risen;
+    some = some_then;
+    fronts = fronts_then;
+  }
+
+-- ---- of a list of the program
+
+take_more : {A : Type 0} (xs : List A) (k : ℕ) (x : A) → k < length xs → take (k + 1) xs ≡ take k xs ++ get_or xs k x ∷ []
+take_more [] k x lt = absurd (omega (arith, lt))
+take_more (y ∷ xs) zero x lt = refl
+take_more (y ∷ xs) (suc k) x lt = let more : suc k + 1 ≡ suc (k + 1) = omega arith in ap (λ n. take n (y ∷ xs)) more ∙ ap (λ l. y ∷ l) (take_more xs k x (omega (arith, lt)))
+
+pub take_whole : {A : Type 0} (xs : List A) (k : ℕ) → length xs ≤ k → take k xs ≡ xs
+take_whole [] zero le = refl
+take_whole [] (suc k) le = refl
+take_whole (y ∷ xs) zero le = absurd (omega (arith, le))
+take_whole (y ∷ xs) (suc k) le = ap (λ l. y ∷ l) (take_whole xs k (omega (arith, le)))
+
+-- so many packets of a list, and one more
+pub one_more : (ps : List declared.Packet) (k : ℕ) (p : declared.Packet) → k < length ps → p ≡ get_or ps k p → packets_of (take (k + 1) ps) ≡ packets_of (take k ps) ++ packet_of p ∷ []
+one_more ps k p less is = ap packets_of (take_more ps k p less ∙ ap (λ (x : declared.Packet). take k ps ++ x ∷ []) (sym is)) ∙ map_more (take k ps) p
+  where
+    map_more : (xs : List declared.Packet) (x : declared.Packet) → packets_of (xs ++ x ∷ []) ≡ packets_of xs ++ packet_of x ∷ []
+    map_more [] x = refl
+    map_more (y ∷ xs) x = ap (λ (l : List Packet). packet_of y ∷ l) (map_more xs x)
+
+-- each of a list has it
+pub good_at : (ps : List declared.Packet) (k : ℕ) (p : declared.Packet) → k < length ps → p ≡ get_or ps k p → Every IsGoodPacket (packets_of ps) → IsGoodPacket (packet_of p)
+good_at [] k p less is good = absurd (omega (arith, less))
+good_at (x ∷ ps) zero p less is good = subst (λ (y : declared.Packet). IsGoodPacket (packet_of y)) (sym is) good.0
+good_at (x ∷ ps) (suc k) p less is good = good_at ps k p (omega (arith, less)) is good.1
+
+-- a front of a list out of a list is out of it
+pub front_out_of : (effects : List (Effect Tagged)) (ps : List declared.Packet) (k : ℕ) → AreOutOf effects (packets_of ps) → AreOutOf effects (packets_of (take k ps))
+front_out_of effects [] zero of = tt
+front_out_of effects [] (suc k) of = tt
+front_out_of effects (p ∷ ps) zero of = tt
+front_out_of effects (p ∷ ps) (suc k) of = (of.0, front_out_of effects ps k of.1)
