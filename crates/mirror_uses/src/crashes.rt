@@ -34,7 +34,7 @@ fn crashes_leave_what_was_taken(rt: HostRuntime) -> Result<(), Fail> {
         for moment in from..=disk.calls() {
             for choice in 0..3 {
                 let (position, last) = recovered(rt.alloc(), &disk, moment, choice)?;
-                assert!(rt; position + 1 == u64::from(n) || position == u64::from(n));
+                assert!(rt; position == u64::from(n - 1) || position == u64::from(n));
                 assert!(rt; moment < disk.calls() || position == u64::from(n));
                 assert_eq!(rt; last, u64::from(ALL));
             }

@@ -45,8 +45,10 @@ pub fn bytes_of(alloc: Global, numbers: &[u8]) -> Result<Vec<u8>, Fail> {
     let mut bytes = Vec::new(alloc);
     for n in numbers {
         let body = body(alloc, *n)?;
-        bytes.extend_from_slice(&[0, 0, 0, 0, 0, 0, 0, *n, 0, 0, 0])?;
-        bytes.push(body.len() as u8)?;
+        let Ok(length) = u8::try_from(body.len()) else {
+            return Err(Fail::from("a long body"));
+        };
+        bytes.extend_from_slice(&[0, 0, 0, 0, 0, 0, 0, *n, 0, 0, 0, length])?;
         bytes.extend_from_slice(&body)?;
     }
     Ok(bytes)
