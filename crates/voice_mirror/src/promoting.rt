@@ -30,15 +30,15 @@ use voice_outside::Disk;
 /// Why a mirror's disk was not made a voice disk.
 #[derive(Clone, Copy, Debug, PartialEq, Eq)]
 pub enum PromoteError {
-    /// The journal has no further epoch. Nothing was written.
+    /// The journal has no further epoch. Nothing was written but what was in doubt.
     EpochSpent,
-    /// What the mirror has takes the first number of bytes as records, and an area has room for the second. Nothing was written.
+    /// What the mirror has takes the first number of bytes as records, and an area has room for the second. Nothing was written but what was in doubt.
     JournalFull(u128, u64),
-    /// The device failed before the switch counted, and its count of faults rose: the disk is the mirror's as before.
+    /// The device failed before the switch counted, and its count of faults rose: the disk is the mirror's, with what was in doubt or without it.
     DiskFault,
     /// The device failed where the switch may have counted, and its count of faults rose: the disk is the mirror's as before, or a voice disk that has the same.
     InDoubt,
-    /// Nothing was written.
+    /// Nothing was written but what was in doubt.
     NoMemory,
 }
 
