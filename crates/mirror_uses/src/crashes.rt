@@ -1,6 +1,7 @@
 //! What crashes and faults leave of packets, with a switch of the journal among them.
 
-use crate::packets::{ALL, SMALL, disk_of, grown, in_order, serve};
+use crate::disks::disk_of;
+use crate::packets::{ALL, SMALL, grown, in_order, serve};
 use std::alloc::Global;
 use std::test::Fail;
 use voice_disk::{MemDisk, image_of};

@@ -1,6 +1,7 @@
 //! Lists that lose, repeat and reorder packets; and mirrors of several shapes.
 
-use crate::packets::{ALL, SMALL, disk_of, grown, serve};
+use crate::disks::disk_of;
+use crate::packets::{ALL, SMALL, grown, serve};
 use std::alloc::Global;
 use std::test::Fail;
 use voice_disk::{MemDisk, image_of};

@@ -1,28 +1,17 @@
 //! A legal list of 50 changes as packets, and mirrors that take them.
 
-ghost use Rattle.std.specs.Prelude.{◌≤◌, ◌↔◌, IsTrue};
-ghost use Rattle.voice_journal.specs.Readings.{extent};
-
+use crate::disks::{Sizes, disk_of};
 use mirror_packets::parse;
 use std::alloc::Global;
 use std::test::Fail;
 use voice_disk::MemDisk;
-use voice_journal::Journal;
 use voice_mirror::{Mirror, Taken};
-use voice_outside::Disk;
-use voice_units::{Graces, Shape};
 
 /// How many packets the list has.
 pub const ALL: u8 = 50;
 
-/// Block, blocks and area of a mirror's disk.
-pub type Sizes = (u32, u32, u32);
-
 /// With these a mirror switches its journal once on its way to the last packet.
 pub const SMALL: Sizes = (8, 32, 1200);
-
-/// More than any of the shapes takes.
-const DISK: u64 = 16384;
 
 // The body of a packet: by turns a voice file of 8 samples, a row of its rope, the row's end, and a moment.
 fn body(alloc: Global, n: u8) -> Result<Vec<u8>, Fail> {
@@ -61,36 +50,6 @@ pub fn in_order(alloc: Global, last: u8) -> Result<Vec<u8>, Fail> {
         numbers.push(n)?;
     }
     Ok(numbers)
-}
-
-fn shape_of((block, blocks, area): Sizes, size: u64) -> Option<Shape> {
-    let graces = Graces {
-        common: 60,
-        held: 60,
-        until: 60,
-        listed: 60,
-    };
-    Shape::new(2, block, blocks, area, graces, 4, size).ok()
-}
-
-// Whether a disk has room for a shape.
-fn fits<D: Disk>(disk: &D, shape: &Shape) -> bool
-    ensures { IsTrue result ↔ (extent shape.now ≤ (D.told disk.now).size) }
-{
-    let blocks = u64::from(shape.block) * u64::from(shape.blocks);
-    64 + 2 * u64::from(shape.area) + blocks <= disk.size()
-}
-
-/// A disk that was just formatted, whose listed calls fail; formatting makes the calls 1 to 3.
-pub fn disk_of(alloc: Global, sizes: Sizes, fails: &[u64]) -> Result<MemDisk, Fail> {
-    let mut disk = MemDisk::new(alloc, DISK, fails.to_vec(alloc)?)?;
-    let Some(shape) = shape_of(sizes, disk.size()) else {
-        return Err(Fail::from("no shape"));
-    };
-    if !fits(&disk, &shape) || Journal::format(&mut disk, &shape).is_err() {
-        return Err(Fail::from("no disk"));
-    }
-    Ok(disk)
 }
 
 /// What a mirror answered to packets, its position behind them, and its disk.

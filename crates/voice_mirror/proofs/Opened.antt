@@ -73,7 +73,11 @@ reads_as bytes disk opening r is same not_first parts position b rebuilds shows 
     record {
       had = record { kept = recovered bytes b; position = position };
       rebuilt = b;
+      journal = r;
       mirrored = readings.opened bytes r b position is.reads two rebuild;
+      reads = readings.opens bytes r b position is.reads two rebuild;
+      shape = is.stands.at.shape_is;
+      epoch = is.stands.at.epoch;
       shows = shows;
       fills = refl;
       position = refl;

@@ -6,16 +6,19 @@ use Rattle.disk_areas.specs.Numbers.{number_bytes}
 use Rattle.voice_units.specs.declared.shapes.Shape.{Shape}
 use Rattle.voice_units.specs.declared.errors.NoMemory.{NoMemory}
 use Rattle.voice_model.specs.Spelling.{spelling}
-use Rattle.voice_model.specs.Replay.{Rebuilt, is_legal, acted}
+use Rattle.voice_model.specs.Replay.{Rebuilt, is_legal, acted, durable_by}
 use Rattle.voice_model.specs.declared.changes.Change.{Change}
 use Rattle.voice_journal.specs.Places.{JournalValue}
 use Rattle.voice_journal.specs.Readings.{framed_size}
 use Rattle.recovery.specs.declared.parts.Parts.{Parts}
-use Rattle.recovery.specs.Shown.{Rebuilds, IsParts, IsApplied}
+use Rattle.recovery.specs.Shown.{Rebuilds, IsParts, IsApplied, plain_sample}
+use Rattle.checkpoint.specs.Size.{numbers_in}
+use Rattle.mirror_packets.specs.Packets.{Body}
 use Rattle.mirror_readings.specs.Laws.{numbered_payload}
 use Rattle.mirror_tables.specs.Beside.{IsSame}
-use Rattle.mirror_tables.specs.Numbered.{numbered_base_of}
+use Rattle.mirror_tables.specs.Numbered.{numbered_base_of, numbered_by_numbers}
 use Rattle.mirror_tables.proofs.Alike.{shown_alike}
+use Rattle.mirror_tables.proofs.Sized.{numbered_is, numbered_kept}
 use Rattle.voice_mirror.specs.declared.ready.Way.TheVariants as ways
 use Rattle.voice_mirror.specs.declared.ready.How.{How}
 use Rattle.voice_mirror.specs.declared.ready.How.TheVariants as hows
@@ -23,8 +26,13 @@ use Rattle.voice_mirror.specs.declared.ready.Planned.TheVariants as plans
 use Rattle.voice_mirror.specs.declared.ready.Readied.{Readied}
 use Rattle.voice_mirror.specs.declared.ready.Readied.TheVariants as readied
 use Rattle.voice_mirror.specs.Shown.{MirrorState}
-use Rattle.voice_mirror.specs.Taking.{need_of, left_of}
+use Rattle.voice_mirror.specs.Taking.{need_of, left_of, kept_then, size_then}
 use Rattle.voice_mirror.specs.Ready.{IsWay, IsPlanned, IsReadied, EachReadied, size_of, frame_size}
+
+-- the bytes that the base needs then are those of the numbered base of what is there then
+pub size_then_is : (b x : Rebuilt) (parts : Parts) (n : ℕ) (body : Body) → Rebuilds parts x → x.kept ≡ kept_then b body → framed_size (numbered_base_of n x) ≡ size_then b body
+size_then_is b x parts n body shows same =
+    sym (numbered_is parts x n shows) ∙ numbered_kept parts x shows ∙ ap (λ kept. numbered_by_numbers (numbers_in (durable_by plain_sample kept))) same
 
 module _ (journal : JournalValue) (number : ℕ) (x : Rebuilt) (change : Change) (size frame : ℕ) (size_is : size ≡ size_of x) (frame_is : frame ≡ frame_size change) where
   needs : need_of journal size frame ≡ need_of journal (size_of x) (frame_size change)

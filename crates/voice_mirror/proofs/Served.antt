@@ -1,12 +1,20 @@
 -- Packets that were served, one more each time.
-use Rattle.std.proofs.Common.{◌≡◌, inl, inr, ℕ, zero, suc, ◌+◌, ◌<◌, ◌≤◌, ◌^◌, ◌-◌, Bool, List, [], ◌∷◌, ◌++◌, length, take, get_or, Option, Result, refl, sym, ◌∙◌, ap, subst, arith}
+use Rattle.std.proofs.Common.{◌≡◌, inl, inr, ℕ, zero, suc, ◌+◌, ◌<◌, ◌≤◌, ◌^◌, ◌-◌, Bool, true, false, cond, List, [], ◌∷◌, ◌++◌, length, take, get_or, Option, Some, None, Result, refl, sym, ◌∙◌, ap, subst, arith}
+use Rattle.std.specs.Prelude.{nat_le, nat_lt}
+use Rattle.std.proofs.lemmas.Bool.{leb-true, ltb-false}
 use Rattle.voice_outside.specs.Disk.{Told}
 use Rattle.voice_outside.specs.Counters.{HasRisen}
-use Rattle.mirror_packets.specs.Packets.{Packet}
+use Rattle.mirror_packets.specs.Packets.{Body, Packet}
+use Rattle.recovery.specs.Shown.{IsParts}
+use Rattle.voice_model.specs.Replay.{Rebuilt}
+use Rattle.voice_mirror.specs.declared.inside.Pending.{Pending}
 use Rattle.voice_mirror.specs.declared.answers.Taken.{Taken}
 use Rattle.voice_mirror.specs.declared.answers.Taken.TheVariants.{Done, Again, Early, Strange, NoRoom, JournalFull, DiskFault, InDoubt}
-use Rattle.voice_mirror.specs.Shown.{MirrorState}
-use Rattle.voice_mirror.specs.Taking.{Judges}
+use Rattle.voice_mirror.specs.Shown.{MirrorState, IsUpright}
+use Rattle.voice_units.specs.Blocks.{blocks_for}
+use Rattle.voice_blocks.specs.Holders.{open_in}
+use Rattle.mirror_effects.specs.Effects.{is_strange}
+use Rattle.voice_mirror.specs.Taking.{settled_by, settled, size_then, frame_of, need_of, left_of, if_full, if_room, body_judged, judged, AnswersBy, Becomes, Judges}
 use Rattle.voice_mirror.specs.Ready.{IsOfDevice}
 use Rattle.std.specs.Prelude.{IsTrue}
 use Rattle.voice_model.specs.Samples.{Tagged}
@@ -23,15 +31,16 @@ use Rattle.voice_mirror.specs.declared.inside.Inside.{Inside}
 use Rattle.voice_mirror.specs.Shown.{IsStanding, Keeps, KeepsSome, state_of}
 use Rattle.voice_mirror.specs.Taking.{TakesOr}
 use Rattle.voice_mirror.specs.Promoting.{Goes}
-use Rattle.voice_mirror.specs.Serving.{Serves, of_device, device_answers, HaveRisen, GoesOn, HasFront}
+use Rattle.voice_mirror.specs.Serving.{IsShown, Serves, IsTaken, AreHeld, of_device, device_answers, HaveRisen, GoesOn, HasFront}
+use Rattle.voice_mirror.proofs.Landed.{upright_then}
 use Rattle.voice_mirror.proofs.Growing.{some_more, front_more}
 
 -- one packet more
-pub serves_more : (s m t : MirrorState) (packets : List Packet) (answers : List Taken) (packet : Packet) (answer : Taken) → Serves s packets answers m → Judges m packet answer t → Serves s (packets ++ packet ∷ []) (answers ++ answer ∷ []) t
-serves_more s m t [] [] packet answer is judges = (t, subst (λ (x : MirrorState). Judges x packet answer t) is judges, refl)
-serves_more s m t [] (a ∷ answers) packet answer is judges = absurd is
-serves_more s m t (p ∷ packets) [] packet answer is judges = absurd is
-serves_more s m t (p ∷ packets) (a ∷ answers) packet answer is judges = (is.0, is.1, serves_more is.0 m t packets answers packet answer is.2 judges)
+pub serves_more : (s m t : MirrorState) (packets : List Packet) (answers : List Taken) (packet : Packet) (answer : Taken) → Serves s packets answers m → IsShown t → Judges m packet answer t → Serves s (packets ++ packet ∷ []) (answers ++ answer ∷ []) t
+serves_more s m t [] [] packet answer is shown judges = (t, shown, subst (λ (x : MirrorState). Judges x packet answer t) is judges, refl)
+serves_more s m t [] (a ∷ answers) packet answer is shown judges = absurd is
+serves_more s m t (p ∷ packets) [] packet answer is shown judges = absurd is
+serves_more s m t (p ∷ packets) (a ∷ answers) packet answer is shown judges = (is.0, is.1, is.2, serves_more is.0 m t packets answers packet answer is.3 shown judges)
 
 device_more : (answers : List Taken) (answer : Taken) → device_answers (answers ++ answer ∷ []) ≡ device_answers answers + of_device answer
 device_more [] answer = omega arith
@@ -58,13 +67,136 @@ risen_more answers answer old mid new have le risen low =
 pub risen_none : (old : ℕ) → HaveRisen [] old old
 risen_none old low = omega arith
 
+-- ---- what was taken is held
+
+-- what a mirror keeps on any disk shows something, also once what is in doubt has landed
+pub shown_by : (size : ℕ) (s : MirrorState) → IsUpright size s → IsShown s
+shown_by size s upright = by s.pending refl
+  where
+    by : (o : Option Pending) → s.pending ≡ o → IsParts (settled_by o s).journal.shape (settled_by o s).parts
+    by None is = upright.tables
+    by (Some p) is = (upright_then size s p upright is).tables
+
+at_least : (o : Option Pending) (s : MirrorState) → s.position ≤ (settled_by o s).position
+at_least None s = omega arith
+at_least (Some p) s = omega arith
+
+becomes_later : (s t : MirrorState) (answer : Taken) → Becomes s answer t → s.position ≤ t.position
+becomes_later s t Done h = let e = h.0 in omega (arith, e)
+becomes_later s t InDoubt h = let e = h.0 in omega (arith, e)
+becomes_later s t DiskFault h = let e = h.0 in omega (arith, e)
+becomes_later s t Again h = let e = ap (λ (x : MirrorState). x.position) h in omega (arith, e)
+becomes_later s t (Early position) h = let e = ap (λ (x : MirrorState). x.position) h in omega (arith, e)
+becomes_later s t Strange h = let e = ap (λ (x : MirrorState). x.position) h in omega (arith, e)
+becomes_later s t (NoRoom need free) h = let e = ap (λ (x : MirrorState). x.position) h in omega (arith, e)
+becomes_later s t (JournalFull need left) h = let e = ap (λ (x : MirrorState). x.position) h in omega (arith, e)
+
+-- the position never falls
+later : (s t : MirrorState) (packet : Packet) (answer : Taken) → Judges s packet answer t → s.position ≤ t.position
+later s t packet answer (inl stuck) = let e = ap (λ (x : MirrorState). x.position) stuck.same in omega (arith, e)
+later s t packet answer (inr answers) = let le = at_least s.pending s in let more = becomes_later (settled s) t answer answers.becomes in omega (arith, le, more)
+
+-- nothing that is found of a body is the answer to a packet that was taken before
+full_not : (full : Bool) (need left : ℕ) → AnswersBy (cond full (Some (JournalFull need left)) None) Again → ⊥
+full_not true need left h = cc
+full_not false need left (inl h) = cc
+full_not false need left (inr (inl h)) = cc
+full_not false need left (inr (inr h)) = cc
+
+room_not : (room : Bool) (need free : ℕ) (after : Option Taken) → (AnswersBy after Again → ⊥) → AnswersBy (cond room (Some (NoRoom need free)) after) Again → ⊥
+room_not true need free after not h = cc
+room_not false need free after not h = not h
+
+strange_not : (strange : Bool) (after : Option Taken) → (AnswersBy after Again → ⊥) → AnswersBy (cond strange (Some Strange) after) Again → ⊥
+strange_not true after not h = cc
+strange_not false after not h = not h
+
+body_not : (b : Rebuilt) (s : MirrorState) (body : Body) → AnswersBy (body_judged b s body) Again → ⊥
+body_not b s body = by body
+  where
+    full : (body : Body) → AnswersBy (if_full (need_of s.journal (size_then b body) (frame_of s.journal.shape.block body)) (left_of s.journal)) Again → ⊥
+    full body =
+        let need = need_of s.journal (size_then b body) (frame_of s.journal.shape.block body) in
+        full_not (nat_lt (left_of s.journal) need) need (left_of s.journal)
+
+    by : (body : Body) → AnswersBy (body_judged b s body) Again → ⊥
+    by (Body.Voice id samples) =
+        let block = s.journal.shape.block in
+        let free = open_in s.parts.blocks.holders in
+        let after = if_full (need_of s.journal (size_then b (Body.Voice id samples)) (frame_of block (Body.Voice id samples))) (left_of s.journal) in
+        strange_not (is_strange b (Body.Voice id samples)) (if_room block free (Body.Voice id samples) after)
+        (room_not (nat_lt free (blocks_for block (length samples))) (blocks_for block (length samples)) free after (full (Body.Voice id samples)))
+    by (Body.Other change) =
+        strange_not (is_strange b (Body.Other change)) (if_full (need_of s.journal (size_then b (Body.Other change)) (frame_of s.journal.shape.block (Body.Other change))) (left_of s.journal)) (full (Body.Other change))
+
+again_low : (again early : Bool) (n position : ℕ) (found : Option Taken) → nat_le n position ≡ again → (AnswersBy found Again → ⊥) → AnswersBy (cond again (Some Again) (cond early (Some (Early position)) found)) Again → n ≤ position
+again_low true early n position found le not h = leb-true n position le
+again_low false true n position found le not h = absurd (let e : Again ≡ Early position = h in early_not position e)
+  where
+    early_not : (p : ℕ) → Again ≡ Early p → ⊥
+    early_not p e = cc
+again_low false false n position found le not h = absurd (not h)
+
+done_low : (again early : Bool) (n position : ℕ) (found : Option Taken) → nat_lt (position + 1) n ≡ early → AnswersBy (cond again (Some Again) (cond early (Some (Early position)) found)) Done → n ≤ position + 1
+done_low true early n position found le h = absurd (again_not h)
+  where
+    again_not : Done ≡ Again → ⊥
+    again_not e = cc
+done_low false true n position found le h = absurd (early_not h)
+  where
+    early_not : Done ≡ Early position → ⊥
+    early_not e = cc
+done_low false false n position found le h = ltb-false (position + 1) n le
+
+-- a packet that was taken has a number up to the position behind it
+taken_low : (s t : MirrorState) (packet : Packet) (answer : Taken) → IsShown s → Judges s packet answer t → IsTaken answer → packet.number ≤ t.position
+taken_low s t packet answer shown (inl stuck) taken = absurd (by taken)
+  where
+    by : IsTaken answer → ⊥
+    by (inl done) = let e : DiskFault ≡ Done = sym stuck.fault ∙ done in cc
+    by (inr again) = let e : DiskFault ≡ Again = sym stuck.fault ∙ again in cc
+taken_low s t packet answer shown (inr answers) taken = by taken
+  where
+    found : AnswersBy (judged shown.what (settled s) packet) answer
+    found = answers.found shown.what shown.shows shown.in_shape
+
+    by : IsTaken answer → packet.number ≤ t.position
+    by (inl done) =
+        let low = done_low (nat_le packet.number (settled s).position) (nat_lt ((settled s).position + 1) packet.number) packet.number (settled s).position (body_judged shown.what (settled s) packet.body) refl
+        (subst (λ (a : Taken). AnswersBy (judged shown.what (settled s) packet) a) done found) in
+        let becomes : Becomes (settled s) Done t = subst (λ (a : Taken). Becomes (settled s) a t) done answers.becomes in
+        let at = becomes.0 in
+        omega (arith, low, at)
+    by (inr again) =
+        let low = again_low (nat_le packet.number (settled s).position) (nat_lt ((settled s).position + 1) packet.number) packet.number (settled s).position (body_judged shown.what (settled s) packet.body) refl (body_not shown.what (settled s) packet.body)
+        (subst (λ (a : Taken). AnswersBy (judged shown.what (settled s) packet) a) again found) in
+        let more = becomes_later (settled s) t answer answers.becomes in
+        omega (arith, low, more)
+
+serves_later : (s t : MirrorState) (packets : List Packet) (answers : List Taken) → Serves s packets answers t → s.position ≤ t.position
+serves_later s t [] [] is = let e = ap (λ (x : MirrorState). x.position) is in omega (arith, e)
+serves_later s t [] (a ∷ answers) is = absurd is
+serves_later s t (p ∷ packets) [] is = absurd is
+serves_later s t (p ∷ packets) (a ∷ answers) is = let one = later s is.0 p a is.2 in let rest = serves_later is.0 t packets answers is.3 in omega (arith, one, rest)
+
+pub held_by : (s t : MirrorState) (packets : List Packet) (answers : List Taken) → IsShown s → Serves s packets answers t → AreHeld packets answers t.position
+held_by s t [] [] shown is = tt
+held_by s t [] (a ∷ answers) shown is = tt
+held_by s t (p ∷ packets) [] shown is = tt
+held_by s t (p ∷ packets) (a ∷ answers) shown is = (
+  (λ taken. let low = taken_low s is.0 p a shown is.2 taken in let rest = serves_later is.0 t packets answers is.3 in omega (arith, low, rest)),
+  held_by is.0 t packets answers is.1 is.3,
+)
+
 -- ---- packets so far
 
 -- what a run of packets has come to, where the disk was `old` and the mirror s
 pub record Serving (old new : Told) (s t : Inside) (packets : List Packet) (answers : List Taken) : Type 0 where
   pub goes : GoesOn old new
   pub standing : IsStanding new.size t
+  pub shown : IsShown (state_of s)
   pub served : Serves (state_of s) packets answers (state_of t)
+  pub held : AreHeld packets answers t.position
   pub faults : HaveRisen answers old.faults new.faults
   pub some : IsTrue old.honest → KeepsSome old (state_of s) → KeepsSome new (state_of t)
   pub fronts : IsTrue old.honest → (start : Durable Tagged) (effects : List (Effect Tagged)) (first : Durable Tagged) (from t0 : ℕ) → AreLegal start effects → AreOutOf effects packets → HasFront start effects first from t0 old (state_of s) → HasFront start effects first from t0 new (state_of t)
@@ -73,7 +205,9 @@ pub none_served : (old : Told) (s : Inside) → IsStanding old.size s → Servin
 none_served old s standing = record {
   goes = record { size = refl; honest = refl; later = omega arith; faults = omega arith };
   standing = standing;
+  shown = shown_by old.size (state_of s) standing.upright;
   served = refl;
+  held = tt;
   faults = risen_none old.faults;
   some = λ honest some. some;
   fronts = λ honest start effects first from t0 legal of has. has;
@@ -107,14 +241,18 @@ module _ (bodies : BodiesDo) (may : MayBeTaken) (grow : FrontsGrow) (old mid new
       front_more bodies may grow start effects legal packet parts.1 mid new (state_of m) (state_of t) result (takes (honest_then honest)) first from t0 (before.fronts honest start effects first from t0 legal parts.0 has)
 
   pub served_more : (answer : Taken) → Judges (state_of m) packet answer (state_of t) → (IsOfDevice answer → HasRisen mid.faults new.faults) → Serving old new s t (packets ++ packet ∷ []) (answers ++ answer ∷ [])
-  served_more answer judges risen = record {
-    goes = goes_then;
-    standing = standing;
-    served = serves_more (state_of s) (state_of m) (state_of t) packets answers packet answer before.served judges;
-    faults = risen_more answers answer old.faults mid.faults new.faults before.faults goes.faults risen;
-    some = some_then;
-    fronts = fronts_then;
-  }
+  served_more answer judges risen =
+      let served = serves_more (state_of s) (state_of m) (state_of t) packets answers packet answer before.served (shown_by new.size (state_of t) standing.upright) judges in
+      record {
+        goes = goes_then;
+        standing = standing;
+        shown = before.shown;
+        served = served;
+        held = held_by (state_of s) (state_of t) (packets ++ packet ∷ []) (answers ++ answer ∷ []) before.shown served;
+        faults = risen_more answers answer old.faults mid.faults new.faults before.faults goes.faults risen;
+        some = some_then;
+        fronts = fronts_then;
+      }
 
 -- ---- of a list of the program
 

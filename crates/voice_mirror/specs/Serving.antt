@@ -1,13 +1,16 @@
 -- What becomes of packets, one after another.
+--     IsShown s      the tables show what there is once what is in doubt has landed
 --     Serves s packets answers t      one answer for each, by the state that those before it left
+--     IsTaken answer, AreHeld packets answers position      a packet was taken;  the position has all that were
 --     device_answers answers, HaveRisen answers old new      how many are faults of the device;  the count of faults rose by as many at least, or stands at its last value
 --     GoesOn old new      the counts of a disk after calls
 --     HasFront start effects first from t0 disk s      the mirror has a front of a list of changes
 --     IsFrontOf start effects least image      the image is that of a mirror with a front of at least so many changes
-use Rattle.std.specs.Prelude.{◌≡◌, ℕ, ◌+◌, ◌-◌, ◌^◌, ◌<◌, ◌≤◌, List, [], ◌∷◌, length, Option, Some}
+use Rattle.std.specs.Prelude.{◌≡◌, ◌⊎◌, ℕ, ◌+◌, ◌-◌, ◌^◌, ◌<◌, ◌≤◌, List, [], ◌∷◌, length, Option, Some}
 use Rattle.voice_outside.specs.Disk.{Told}
 use Rattle.voice_model.specs.Samples.{Tagged}
 use Rattle.voice_model.specs.State.{Durable, Effect}
+use Rattle.recovery.specs.Shown.{IsParts}
 use Rattle.mirror_packets.specs.Packets.{Packet}
 use Rattle.mirror_readings.specs.Readings.{mirrored_from}
 use Rattle.mirror_laws.specs.Standing.{Took, with_doubt, mirrored_after}
@@ -15,14 +18,28 @@ use Rattle.mirror_effects.specs.Fronts.{IsFront}
 use Rattle.voice_mirror.specs.declared.answers.Taken.{Taken}
 use Rattle.voice_mirror.specs.declared.answers.Taken.TheVariants.{Done, Again, Early, Strange, NoRoom, JournalFull, DiskFault, InDoubt}
 use Rattle.voice_mirror.specs.Shown.{MirrorState, Keeps}
-use Rattle.voice_mirror.specs.Taking.{Judges}
+use Rattle.voice_mirror.specs.Taking.{settled, Judges}
+
+-- the tables show what there is once what is in doubt has landed, of the journal's shape
+abbrev pub IsShown : MirrorState → Type 0
+IsShown s = IsParts (settled s).journal.shape (settled s).parts
 
 -- one answer for each packet, each by the state that the packets before it left
 abbrev pub Serves : MirrorState → List Packet → List Taken → MirrorState → Type 0
 Serves s [] [] t = t ≡ s
 Serves s [] (answer ∷ answers) t = ⊥
 Serves s (packet ∷ packets) [] t = ⊥
-Serves s (packet ∷ packets) (answer ∷ answers) t = (m : MirrorState) × Judges s packet answer m × Serves m packets answers t
+Serves s (packet ∷ packets) (answer ∷ answers) t = (m : MirrorState) × IsShown m × Judges s packet answer m × Serves m packets answers t
+
+-- a packet was taken, now or before
+abbrev pub IsTaken : Taken → Type 0
+IsTaken answer = (answer ≡ Done) ⊎ (answer ≡ Again)
+
+-- the numbers of all packets that were taken are at most the position
+abbrev pub AreHeld : List Packet → List Taken → ℕ → Type 0
+AreHeld [] answers position = Unit {0}
+AreHeld (packet ∷ packets) [] position = Unit {0}
+AreHeld (packet ∷ packets) (answer ∷ answers) position = (IsTaken answer → packet.number ≤ position) × AreHeld packets answers position
 
 -- how many answers are faults of the device
 abbrev pub of_device : Taken → ℕ

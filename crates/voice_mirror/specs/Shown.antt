@@ -10,6 +10,7 @@
 --     state_of inside, IsStanding size inside, IsWhole origin disk inside      the same of the parts of the program
 use Rattle.std.specs.Prelude.{◌≡◌, ℕ, ◌+◌, ◌^◌, ◌<◌, ◌≤◌, List, [], length, Option, None, Some, IsTrue, IsSome}
 use Rattle.voice_outside.specs.Disk.{Told}
+use Rattle.disk_areas.specs.Areas.{Journal}
 use Rattle.voice_model.specs.Samples.{Tagged}
 use Rattle.voice_model.specs.State.{Durable, Effect}
 use Rattle.voice_model.specs.Replay.{Rebuilt, recovered}
@@ -17,7 +18,7 @@ use Rattle.voice_journal.specs.Readings.{extent}
 use Rattle.voice_journal.specs.Places.{JournalValue}
 use Rattle.recovery.specs.declared.parts.Parts.{Parts}
 use Rattle.recovery.specs.Shown.{Rebuilds, IsParts}
-use Rattle.mirror_readings.specs.Readings.{Mirrored, mirrored_from}
+use Rattle.mirror_readings.specs.Readings.{Mirrored, MirrorReading, mirror_reading, mirrored_from}
 use Rattle.mirror_laws.specs.Standing.{Took, IsHeld}
 use Rattle.mirror_tables.specs.Beside.{IsBehind, IsBeside}
 use Rattle.voice_mirror.specs.declared.inside.Inside.{Inside}
@@ -87,11 +88,15 @@ pub record IsOpened (bytes : List ℕ) (calls : ℕ) (disk : Told) (s : MirrorSt
   pub soon : t0 ≤ calls + 2
   pub keeps : Keeps had.kept had.position t0 [] None disk s
 
--- the state is what these bytes mean
+-- the state is what these bytes mean, and its journal is of their shape and epoch
 pub record IsRead (bytes : List ℕ) (s : MirrorState) : Type 0 where
   pub had : Mirrored
   pub rebuilt : Rebuilt
+  pub journal : Journal
   pub mirrored : mirrored_from bytes ≡ Some had
+  pub reads : mirror_reading bytes ≡ MirrorReading.Reads journal rebuilt had.position
+  pub shape : s.journal.shape ≡ journal.shape
+  pub epoch : s.journal.seat.epoch ≡ journal.epoch
   pub shows : Rebuilds s.parts rebuilt
   pub fills : recovered bytes rebuilt ≡ had.kept
   pub position : s.position ≡ had.position

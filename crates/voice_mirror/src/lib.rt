@@ -20,8 +20,3 @@ pub use answers::Taken;
 pub use mirror::Mirror;
 pub use promoting::PromoteError;
 pub use voice_journal::OpenError;
-
-#[cfg(test)]
-mod promotions;
-#[cfg(test)]
-mod tests;

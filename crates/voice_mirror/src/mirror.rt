@@ -1,6 +1,6 @@
 //! The mirror.
 
-ghost use Rattle.std.specs.Prelude.{◌≡◌, ◌+◌, ℕ, List, Option, None, IsTrue, IfOk, IfErr, IsErrAnd, OnErr};
+ghost use Rattle.std.specs.Prelude.{◌≡◌, ◌+◌, ℕ, List, map, Option, None, IsTrue, IfOk, IfErr, IsErrAnd, OnErr};
 ghost use Rattle.voice_outside.specs.Counters.{HasRisen};
 ghost use Rattle.voice_journal.specs.Looks.{Looks, Since};
 ghost use Rattle.voice_journal.specs.Opens.{IsBadAt};
@@ -10,16 +10,18 @@ ghost use Rattle.voice_model.specs.State.{Durable, Effect};
 ghost use Rattle.voice_model.specs.Spelling.{spelling};
 ghost use Rattle.voice_model.specs.Base.{base_of};
 ghost use Rattle.voice_model.specs.Replay.{Rebuilt};
+ghost use Rattle.recovery.specs.declared.parts.Parts.{Parts};
 ghost use Rattle.recovery.specs.Shown.{Rebuilds};
 ghost use Rattle.mirror_packets.specs.Packets.{IsGoodPacket, AreGood};
 ghost use Rattle.mirror_packets.specs.Shown.{packet_of, packets_of};
 ghost use Rattle.mirror_readings.specs.Readings.{MirrorReading, mirror_reading};
 ghost use Rattle.mirror_laws.specs.Standing.{Took};
+ghost use Rattle.mirror_tables.specs.Numbered.{numbered_base_of, plain_size};
 ghost use Rattle.mirror_effects.specs.Fronts.{AreLegal, AreOutOf};
 ghost use Rattle.voice_mirror.specs.Shown.{IsOpened, IsRead, Keeps, KeepsSome};
-ghost use Rattle.voice_mirror.specs.Taking.{settled, body_blocks, Judges, TakesOr};
+ghost use Rattle.voice_mirror.specs.Taking.{settled, body_blocks, kept_then, size_then, Judges, TakesOr};
 ghost use Rattle.voice_mirror.specs.Ready.{IsPut, IsOfDevice};
-ghost use Rattle.voice_mirror.specs.Serving.{Serves, GoesOn, HaveRisen, HasFront};
+ghost use Rattle.voice_mirror.specs.Serving.{Serves, AreHeld, GoesOn, HaveRisen, HasFront};
 ghost use Rattle.voice_mirror.specs.Promoting.{Goes, JudgesPromotion, PromotesAs};
 ghost use Rattle.voice_mirror.specs.Promoting as promoting;
 
@@ -93,6 +95,8 @@ impl<D: Disk> Mirror<D> {
         ensures goes { Goes (body_blocks self.old.state.journal.shape.block (packet_of packet.now).body + 8) (D.told self.old.disk) (D.told self.new.disk) }
         ensures origin { self.new.origin ≡ self.old.origin }
         ensures judges { IfOk result (λ answer. Judges self.old.state (packet_of packet.now) answer self.new.state) }
+        // The bytes that the base needs then are those of the numbered base of any tables that show what is kept then.
+        ensures need { (b x : Rebuilt) (parts : Parts) (n : ℕ) → Rebuilds parts x → x.kept ≡ kept_then b (packet_of packet.now).body → framed_size (numbered_base_of n x) ≡ size_then b (packet_of packet.now).body }
         ensures fault { IfOk result (λ answer. IsOfDevice answer → HasRisen (D.told self.old.disk).faults (D.told self.new.disk).faults) }
         ensures refused { IfOk result (λ answer. ¬ IsPut answer → self.old.state.pending ≡ None → self.new.disk ≡ self.old.disk) }
         ensures memory { OnErr result (self.new.state ≡ settled self.old.state) }
@@ -110,6 +114,8 @@ impl<D: Disk> Mirror<D> {
         ensures goes { GoesOn (D.told self.old.disk) (D.told self.new.disk) }
         ensures origin { self.new.origin ≡ self.old.origin }
         ensures served { IfOk result (λ answers. Serves self.old.state (packets_of packets.now) answers.items self.new.state) }
+        // What was taken, now or before, the position has.
+        ensures held { IfOk result (λ answers. AreHeld (packets_of packets.now) answers.items self.new.state.position) }
         ensures faults { IfOk result (λ answers. HaveRisen answers.items (D.told self.old.disk).faults (D.told self.new.disk).faults) }
         ensures some { IsTrue (D.told self.old.disk).honest → KeepsSome (D.told self.old.disk) self.old.state → KeepsSome (D.told self.new.disk) self.new.state }
         // Packets out of a legal list leave a front of it, in any order, lost and repeated.
@@ -123,6 +129,8 @@ impl<D: Disk> Mirror<D> {
     pub fn promote(self) -> (Result<(), PromoteError>, D)
         ensures goes { Goes 8 (D.told self.disk) (D.told result.1) }
         ensures judges { JudgesPromotion self.state result.0 }
+        // The bytes needed are those of the base that is written.
+        ensures need { (b : Rebuilt) → Rebuilds (settled self.state).parts b → plain_size (settled self.state).parts ≡ framed_size (map spelling (base_of 2 b)) }
         ensures unchanged { IfErr result.0 (λ e. ¬ promoting.IsOfDevice e → self.state.pending ≡ None → result.1 ≡ self.disk) }
         ensures fault { IfErr result.0 (λ e. promoting.IsOfDevice e → HasRisen (D.told self.disk).faults (D.told result.1).faults) }
         // An honest disk is that of a mirror, before it and whatever it comes to but Done.

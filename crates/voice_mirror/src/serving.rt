@@ -7,7 +7,7 @@ ghost use Rattle.mirror_packets.specs.Packets.{AreGood};
 ghost use Rattle.mirror_packets.specs.Shown.{packets_of};
 ghost use Rattle.mirror_effects.specs.Fronts.{AreLegal, AreOutOf};
 ghost use Rattle.voice_mirror.specs.Shown.{IsStanding, KeepsSome, state_of};
-ghost use Rattle.voice_mirror.specs.Serving.{Serves, GoesOn, HaveRisen, HasFront};
+ghost use Rattle.voice_mirror.specs.Serving.{Serves, AreHeld, GoesOn, HaveRisen, HasFront};
 
 use crate::answers::Taken;
 use crate::inside::Inside;
@@ -28,6 +28,7 @@ pub(crate) fn serve<D: Disk>(
     ensures goes { GoesOn (D.told disk.old) (D.told disk.new) }
     ensures standing { IsStanding (D.told disk.new).size inside.new }
     ensures served { IfOk result (λ answers. Serves (state_of inside.old) (packets_of packets.now) answers.items (state_of inside.new)) }
+    ensures held { IfOk result (λ answers. AreHeld (packets_of packets.now) answers.items inside.new.position) }
     ensures faults { IfOk result (λ answers. HaveRisen answers.items (D.told disk.old).faults (D.told disk.new).faults) }
     ensures some { IsTrue (D.told disk.old).honest → KeepsSome (D.told disk.old) (state_of inside.old) → KeepsSome (D.told disk.new) (state_of inside.new) }
     ensures fronts { IsTrue (D.told disk.old).honest → (start : Durable Tagged) (effects : List (Effect Tagged)) (first : Durable Tagged) (from t0 : ℕ) → AreLegal start effects → AreOutOf effects (packets_of packets.now)

@@ -3,7 +3,7 @@ use Rattle.mirror_packets.specs.Packets.{Packet}
 use Rattle.mirror_packets.specs.Shown.{packet_of, packets_of}
 use Rattle.mirror_effects.specs.Fronts.{AreOutOf}
 use Rattle.voice_mirror.specs.declared.answers.Taken.{Taken}
-use Rattle.voice_mirror.proofs.Served.{Serving, served_more, some_then, fronts_then, one_more, good_at, front_out_of}
+use Rattle.voice_mirror.proofs.Served.{Serving, none_served, served_more, some_then, fronts_then, one_more, good_at, front_out_of}
 use Rattle.voice_mirror.proofs.serving.serve.Goals as goal
 
 pub take-requires-clause-good : goal.take-requires-clause-good
@@ -50,3 +50,9 @@ loop-packet-preserved g c =
     (subst (λ (answers : List Taken). Serving old new c.args.inside.now c.take.new.inside (packets ++ packet ∷ []) answers) (sym c.in_ok-push.ensures.items)
     (served_more c.bodies_do.ensures c.may_be_taken.ensures c.fronts_grow.ensures old mid new c.args.inside.now c.loop-packet.inside c.take.new.inside packets c.loop-packet.answers.items packet _ c.loop-packet.invariant c.take.ensures.goes c.take.ensures.standing
     c.take.result c.take.ensures.takes c.in_ok-answer.answer c.in_ok-answer.ensures.judges c.in_ok-answer.ensures.fault))
+
+pub loop-packet-init : goal.loop-packet-init
+loop-packet-init g c =
+    let old = g.D.Disk.told c.args.disk.now in
+    let s = c.args.inside.now in
+    subst (λ (answers : List Taken). Serving old old s s [] answers) (sym c.in_ok-answers.ensures.items) (none_served old s c.requires.standing)

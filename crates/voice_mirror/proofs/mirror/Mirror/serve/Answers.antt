@@ -36,3 +36,6 @@ returns-clause-served g c = by_view c.self.view_is (λ v. IfOk c.serve.result (�
 
 pub returns-clause-faults : goal.returns-clause-faults
 returns-clause-faults g c = by_view c.self.view_is (λ v. IfOk c.serve.result (λ answers. HaveRisen answers.items (g.D.Disk.told v.disk).faults (g.D.Disk.told c.serve.new.disk).faults)) c.serve.ensures.faults
+
+pub returns-clause-held : goal.returns-clause-held
+returns-clause-held g c = c.serve.ensures.held

@@ -11,6 +11,7 @@ use Rattle.voice_mirror.specs.Ready.{IsPut, IsOfDevice}
 use Rattle.voice_mirror.specs.Promoting.{Goes}
 use Rattle.voice_mirror.proofs.Growing.{some_more}
 use Rattle.voice_mirror.proofs.Opened.{whole_then}
+use Rattle.voice_mirror.proofs.Planning.{size_then_is}
 use Rattle.voice_mirror.proofs.Promoted.{by_view}
 use Rattle.voice_mirror.proofs.mirror.Mirror.take.Goals as goal
 
@@ -33,6 +34,9 @@ returns-clause-origin g c = by_view c.self.view_is (λ v. c.self.inside.origin.v
 
 pub returns-clause-judges : goal.returns-clause-judges
 returns-clause-judges g c = by_view c.self.view_is (λ v. IfOk c.take.result (λ answer. Judges v.state (packet_of c.args.packet.now) answer (state_of c.take.new.inside))) c.take.ensures.judges
+
+pub returns-clause-need : goal.returns-clause-need
+returns-clause-need g c = λ b x parts n shows same. size_then_is b x parts n (packet_of c.args.packet.now).body shows same
 
 pub returns-clause-fault : goal.returns-clause-fault
 returns-clause-fault g c =
