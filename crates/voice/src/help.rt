@@ -17,6 +17,8 @@ Its forms, each with an example:
   voice audit                  what stands on the disk              voice audit
   voice make SEED LINES        runs a generated script, and counts  voice make 7 2000
   voice packets NAME FILE N    runs, and writes changes to FILE     voice packets mail.vs mail.pk 1
+  voice mirror FILE            the disk takes packets of FILE       voice mirror mail.pk
+  voice promote                a mirror's disk becomes a voice disk voice promote
   voice import AU FILE         samples out of an AU file            voice import memo.au memo.ul
   voice export FILE AU         an AU file of samples                voice export memo.ul memo.au
   voice --help, --version      this, and the version
@@ -44,5 +46,6 @@ ROPE a variable or a number, CLASS held, until or listed, NOTE hexadecimal digit
 The disk is voice.disk of the folder, made and formatted where absent. docs/SCRIPT.md has more.
 Exit status: 0 done, 2 bad words or shape, 3 a bad line of the script, 4 no such file, 5 the
 folder failed, 6 the output, 7 a damaged disk, 8 the disk failed, 9 no memory, 10 no AU file
-of mu-law at 8,000, 11 a bad index, 12 a bad note, 13 too many keys; standard error tells.
+of mu-law at 8,000, 11 a bad index, 12 a bad note, 13 too many keys, 14 bad packets; and of
+promote 15 a full journal, 16 in doubt, 17 no further epoch; standard error tells.
 ";

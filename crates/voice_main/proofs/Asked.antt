@@ -1,11 +1,10 @@
--- The words of a conversion, and of a census of notes.
+-- The words of a conversion, and a word with the name of a file.
 use Rattle.std.proofs.Common.{◌≡◌, ℕ, true, false, List, [], ◌∷◌, length, map, refl, sym, ap, ◌∙◌}
 use Rattle.std.proofs.lemmas.Bool.{false≢true}
 use Rattle.script_lang.specs.Forms.{is_file}
 use Rattle.voice_main.specs.declared.convert.Way.{Way}
 use Rattle.voice_main.specs.Conversions.{way_word}
-use Rattle.std.specs.Prelude.{codes}
-use Rattle.voice_main.specs.Words.{IsConversion, IsNoConversion, IsNotes, IsNoNotes}
+use Rattle.voice_main.specs.Words.{IsConversion, IsNoConversion, IsNamed, IsNotNamed}
 
 -- what three words ask for
 parts : (way : Way) (verb source target s t : List ℕ) → IsConversion way (verb ∷ source ∷ target ∷ []) s t → (verb ≡ way_word way) × (source ≡ s) × (target ≡ t)
@@ -37,23 +36,23 @@ not_three f (a ∷ b ∷ []) other way s t is = let h : f a ∷ f b ∷ [] ≡ w
 not_three f (a ∷ b ∷ c ∷ []) other way s t is = other refl
 not_three f (a ∷ b ∷ c ∷ d ∷ xs) other way s t is = let h : f a ∷ f b ∷ f c ∷ f d ∷ map f xs ≡ way_word way ∷ s ∷ t ∷ [] = is.form in cc
 
--- ---- a census of notes
+-- ---- a word with the name of a file
 
-index_parts : (verb index name : List ℕ) → IsNotes (verb ∷ index ∷ []) name → (verb ≡ codes "notes") × (index ≡ name)
-index_parts verb index name is = let h : verb ∷ index ∷ [] ≡ codes "notes" ∷ name ∷ [] = is.form in let a : verb ≡ codes "notes" = cc in let b : index ≡ name = cc in (a, b)
+name_parts : (word verb file name : List ℕ) → IsNamed word (verb ∷ file ∷ []) name → (verb ≡ word) × (file ≡ name)
+name_parts word verb file name is = let h : verb ∷ file ∷ [] ≡ word ∷ name ∷ [] = is.form in let a : verb ≡ word = cc in let b : file ≡ name = cc in (a, b)
 
-pub no_notes : (verb index : List ℕ) → ¬ (verb ≡ codes "notes") → IsNoNotes (verb ∷ index ∷ [])
-no_notes verb index other name is = other (index_parts verb index name is).0
+pub other_word : (word verb file : List ℕ) → ¬ (verb ≡ word) → IsNotNamed word (verb ∷ file ∷ [])
+other_word word verb file other name is = other (name_parts word verb file name is).0
 
-pub no_index : (verb index : List ℕ) → is_file index ≡ false → IsNoNotes (verb ∷ index ∷ [])
-no_index verb index none name is = false≢true (sym none ∙ ap is_file (index_parts verb index name is).1 ∙ is.file)
+pub no_file : (word verb file : List ℕ) → is_file file ≡ false → IsNotNamed word (verb ∷ file ∷ [])
+no_file word verb file none name is = false≢true (sym none ∙ ap is_file (name_parts word verb file name is).1 ∙ is.file)
 
-pub notes_of : (verb index name : List ℕ) → verb ≡ codes "notes" → is_file index ≡ true → name ≡ index → IsNotes (verb ∷ index ∷ []) name
-notes_of verb index name e file same = record { form = ap (λ v. v ∷ index ∷ []) e ∙ ap (λ n. codes "notes" ∷ n ∷ []) (sym same); file = ap is_file same ∙ file }
+pub named_by : (word verb file name : List ℕ) → verb ≡ word → is_file file ≡ true → name ≡ file → IsNamed word (verb ∷ file ∷ []) name
+named_by word verb file name e has same = record { form = ap (λ v. v ∷ file ∷ []) e ∙ ap (λ n. word ∷ n ∷ []) (sym same); file = ap is_file same ∙ has }
 
 -- fewer or more words than two
-pub not_two : {X : Type 0} (f : X → List ℕ) (xs : List X) → ¬ (length xs ≡ 2) → IsNoNotes (map f xs)
-not_two f [] other name is = let h : [] ≡ codes "notes" ∷ name ∷ [] = is.form in cc
-not_two f (a ∷ []) other name is = let h : f a ∷ [] ≡ codes "notes" ∷ name ∷ [] = is.form in cc
-not_two f (a ∷ b ∷ []) other name is = other refl
-not_two f (a ∷ b ∷ c ∷ xs) other name is = let h : f a ∷ f b ∷ f c ∷ map f xs ≡ codes "notes" ∷ name ∷ [] = is.form in cc
+pub not_two : {X : Type 0} (word : List ℕ) (f : X → List ℕ) (xs : List X) → ¬ (length xs ≡ 2) → IsNotNamed word (map f xs)
+not_two word f [] other name is = let h : [] ≡ word ∷ name ∷ [] = is.form in cc
+not_two word f (a ∷ []) other name is = let h : f a ∷ [] ≡ word ∷ name ∷ [] = is.form in cc
+not_two word f (a ∷ b ∷ []) other name is = other refl
+not_two word f (a ∷ b ∷ c ∷ xs) other name is = let h : f a ∷ f b ∷ f c ∷ map f xs ≡ word ∷ name ∷ [] = is.form in cc

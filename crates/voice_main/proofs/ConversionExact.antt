@@ -9,7 +9,7 @@ use Rattle.voice_model.specs.declared.calls.Entry.{Entry}
 use Rattle.voice_main.specs.declared.convert.Way.{Way}
 use Rattle.voice_main.specs.declared.convert.Way.TheVariants as ways
 use Rattle.voice_main.specs.declared.status.Status.{Status}
-use Rattle.voice_main.specs.declared.status.Status.TheVariants.{Done, Usage, BadShape, BadScript, NoFile, ShelfFault, SinkFault, BadDisk, DiskFault, NoMemory, BadAu, BadIndex, BadNote, TooManyKeys}
+use Rattle.voice_main.specs.declared.status.Status.TheVariants.{Done, Usage, BadShape, BadScript, NoFile, ShelfFault, SinkFault, BadDisk, DiskFault, NoMemory, BadAu, BadIndex, BadNote, TooManyKeys, BadPackets, JournalFull, InDoubt, EpochSpent}
 use Rattle.voice_main.specs.Outside.{Outside, ShelfFaulted}
 use Rattle.voice_main.specs.FormatPromise.{IsLeft}
 use Rattle.voice_main.specs.RunPromise.{IsOr}
@@ -49,6 +49,10 @@ bad_or way files source target new shelf DiskFault name cause h bad = absurd h
 bad_or way files source target new shelf (BadIndex line) name cause h bad = absurd h
 bad_or way files source target new shelf (BadNote note place) name cause h bad = absurd h
 bad_or way files source target new shelf (TooManyKeys count) name cause h bad = absurd h
+bad_or way files source target new shelf (BadPackets place) name cause h bad = absurd h
+bad_or way files source target new shelf (JournalFull need left) name cause h bad = absurd h
+bad_or way files source target new shelf InDoubt name cause h bad = absurd h
+bad_or way files source target new shelf EpochSpent name cause h bad = absurd h
 
 none_or : (way : Way) (files : Files) (source target : List ℕ) (new : Option Files) (shelf : Type 0) (status : Status) → ConversionComes way source target (Some files) new shelf status → get files source ≡ None → IsOr (NoFile source) status
 none_or way files source target new shelf Done h none = absurd (there files source h.bytes h.found none)
@@ -65,6 +69,10 @@ none_or way files source target new shelf DiskFault h none = absurd h
 none_or way files source target new shelf (BadIndex line) h none = absurd h
 none_or way files source target new shelf (BadNote note place) h none = absurd h
 none_or way files source target new shelf (TooManyKeys count) h none = absurd h
+none_or way files source target new shelf (BadPackets place) h none = absurd h
+none_or way files source target new shelf (JournalFull need left) h none = absurd h
+none_or way files source target new shelf InDoubt h none = absurd h
+none_or way files source target new shelf EpochSpent h none = absurd h
 
 exact : (way : Way) (told : Option Files) (source target : List ℕ) (new : Option Files) (shelf : Type 0) (status : Status) → ConversionComes way source target told new shelf status → IfSome told (λ files. ConversionExact way files source status)
 exact way None source target new shelf status h = tt
@@ -92,6 +100,10 @@ done_or way files source target new shelf DiskFault bytes h found sound calm = a
 done_or way files source target new shelf (BadIndex line) bytes h found sound calm = absurd h
 done_or way files source target new shelf (BadNote note place) bytes h found sound calm = absurd h
 done_or way files source target new shelf (TooManyKeys count) bytes h found sound calm = absurd h
+done_or way files source target new shelf (BadPackets place) bytes h found sound calm = absurd h
+done_or way files source target new shelf (JournalFull need left) bytes h found sound calm = absurd h
+done_or way files source target new shelf InDoubt bytes h found sound calm = absurd h
+done_or way files source target new shelf EpochSpent bytes h found sound calm = absurd h
 
 complete : (way : Way) (told : Option Files) (source target : List ℕ) (old new : Outside) (after : Option Files) (status : Status) → ConversionComes way source target told after (ShelfFaulted old new) status → IfSome told (λ files. ConversionComplete way files source old new status)
 complete way None source target old new after status h = tt

@@ -14,7 +14,7 @@ use Rattle.voice_main.specs.declared.convert.Way.TheVariants as ways
 use Rattle.voice_main.specs.declared.load.LoadError.{LoadError}
 use Rattle.voice_main.specs.declared.load.LoadError.TheVariants as load
 use Rattle.voice_main.specs.declared.status.Status.{Status}
-use Rattle.voice_main.specs.declared.status.Status.TheVariants.{Done, Usage, BadShape, BadScript, NoFile, ShelfFault, SinkFault, BadDisk, DiskFault, NoMemory, BadAu, BadIndex, BadNote, TooManyKeys}
+use Rattle.voice_main.specs.declared.status.Status.TheVariants.{Done, Usage, BadShape, BadScript, NoFile, ShelfFault, SinkFault, BadDisk, DiskFault, NoMemory, BadAu, BadIndex, BadNote, TooManyKeys, BadPackets, JournalFull, InDoubt, EpochSpent}
 use Rattle.voice_main.specs.Load.{LoadIs}
 use Rattle.voice_main.specs.Statuses.{load_status_of}
 use Rattle.voice_main.specs.Conversions.{IsMade, ConversionComes, BytesCome, PutComes, IsUnset}
@@ -65,6 +65,10 @@ came way source target bytes told mid new shelf risen DiskFault found kept rises
 came way source target bytes told mid new shelf risen (BadIndex line) found kept rises h = absurd h
 came way source target bytes told mid new shelf risen (BadNote note place) found kept rises h = absurd h
 came way source target bytes told mid new shelf risen (TooManyKeys count) found kept rises h = absurd h
+came way source target bytes told mid new shelf risen (BadPackets place) found kept rises h = absurd h
+came way source target bytes told mid new shelf risen (JournalFull need left) found kept rises h = absurd h
+came way source target bytes told mid new shelf risen InDoubt found kept rises h = absurd h
+came way source target bytes told mid new shelf risen EpochSpent found kept rises h = absurd h
 
 -- the source was not read
 pub unread : (way : Way) (source target : List ℕ) (told new : Option Files) (shelf : Type 0) (e : LoadError) → LoadIs (λ missing. (missing ≡ source) × IfSome told (λ files. get files source ≡ None)) shelf e → ConversionComes way source target told new shelf (load_status_of e)
@@ -90,6 +94,10 @@ put_made way source target bytes out told new shelf (BadAu name cause) made set 
 put_made way source target bytes out told new shelf (BadIndex line) made set h = absurd h
 put_made way source target bytes out told new shelf (BadNote note place) made set h = absurd h
 put_made way source target bytes out told new shelf (TooManyKeys count) made set h = absurd h
+put_made way source target bytes out told new shelf (BadPackets place) made set h = absurd h
+put_made way source target bytes out told new shelf (JournalFull need left) made set h = absurd h
+put_made way source target bytes out told new shelf InDoubt made set h = absurd h
+put_made way source target bytes out told new shelf EpochSpent made set h = absurd h
 
 -- setting a file is not refused
 pub not_unset : (shelf : Type 0) (status : Status) → PutComes shelf status → IsUnset status → ⊥
@@ -107,6 +115,10 @@ not_unset shelf (BadAu name cause) h unset = h
 not_unset shelf (BadIndex line) h unset = h
 not_unset shelf (BadNote note place) h unset = h
 not_unset shelf (TooManyKeys count) h unset = h
+not_unset shelf (BadPackets place) h unset = h
+not_unset shelf (JournalFull need left) h unset = h
+not_unset shelf InDoubt h unset = h
+not_unset shelf EpochSpent h unset = h
 
 -- a file of samples is read back
 pub exported : (bytes out : List ℕ) → ReadsBack → out ≡ file_of bytes → IsMade ways.Export bytes out

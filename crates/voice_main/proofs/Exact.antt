@@ -11,7 +11,7 @@ use Rattle.voice_model.specs.Image as image
 use Rattle.voice_model.specs.State.{State}
 use Rattle.voice_store.specs.Stood.{is_fault}
 use Rattle.voice_main.specs.declared.status.Status.{Status}
-use Rattle.voice_main.specs.declared.status.Status.TheVariants.{Done, Usage, BadShape, BadScript, NoFile, ShelfFault, SinkFault, BadDisk, DiskFault, NoMemory, BadAu, BadIndex, BadNote, TooManyKeys}
+use Rattle.voice_main.specs.declared.status.Status.TheVariants.{Done, Usage, BadShape, BadScript, NoFile, ShelfFault, SinkFault, BadDisk, DiskFault, NoMemory, BadAu, BadIndex, BadNote, TooManyKeys, BadPackets, JournalFull, InDoubt, EpochSpent}
 use Rattle.script_lang.specs.declared.scripts.Cause.{Cause}
 use Rattle.script_lang.specs.Shown.{Reading}
 use Rattle.script_lang.specs.Words.{lines_of}
@@ -133,42 +133,16 @@ exact threads name files a b c d disk new history DiskFault h = record {
   bad_disk = λ _ _ _ _. inl refl;
   good_disk = λ _ _ _. inr (inl refl);
 }
-exact threads name files a b c d disk new history Usage h = record {
-  bad_script = absurd h;
-  no_file = absurd h;
-  bad_disk = absurd h;
-  good_disk = absurd h;
-}
-exact threads name files a b c d disk new history (BadAu other cause) h = record {
-  bad_script = absurd h;
-  no_file = absurd h;
-  bad_disk = absurd h;
-  good_disk = absurd h;
-}
-exact threads name files a b c d disk new history (BadIndex line) h = record {
-  bad_script = absurd h;
-  no_file = absurd h;
-  bad_disk = absurd h;
-  good_disk = absurd h;
-}
-exact threads name files a b c d disk new history (BadNote note place) h = record {
-  bad_script = absurd h;
-  no_file = absurd h;
-  bad_disk = absurd h;
-  good_disk = absurd h;
-}
-exact threads name files a b c d disk new history (TooManyKeys count) h = record {
-  bad_script = absurd h;
-  no_file = absurd h;
-  bad_disk = absurd h;
-  good_disk = absurd h;
-}
-exact threads name files a b c d disk new history BadShape h = record {
-  bad_script = absurd h;
-  no_file = absurd h;
-  bad_disk = absurd h;
-  good_disk = absurd h;
-}
+exact threads name files a b c d disk new history Usage h = absurd h
+exact threads name files a b c d disk new history (BadAu other cause) h = absurd h
+exact threads name files a b c d disk new history (BadIndex line) h = absurd h
+exact threads name files a b c d disk new history (BadNote note place) h = absurd h
+exact threads name files a b c d disk new history (TooManyKeys count) h = absurd h
+exact threads name files a b c d disk new history (BadPackets place) h = absurd h
+exact threads name files a b c d disk new history (JournalFull need left) h = absurd h
+exact threads name files a b c d disk new history InDoubt h = absurd h
+exact threads name files a b c d disk new history EpochSpent h = absurd h
+exact threads name files a b c d disk new history BadShape h = absurd h
 exact threads name files a b c d disk new history (BadScript m why) h = record {
   bad_script = λ n cause bad. inl (one_bad_script files name m n why cause h bad);
   no_file = λ x gone. absurd (bad_not_absent files name m why x h gone);
@@ -218,6 +192,10 @@ complete threads name files a b c d disk new history status h so_far later = λ 
     by (BadIndex line) h there honest read calm dry still = absurd h
     by (BadNote note place) h there honest read calm dry still = absurd h
     by (TooManyKeys count) h there honest read calm dry still = absurd h
+    by (BadPackets place) h there honest read calm dry still = absurd h
+    by (JournalFull need left) h there honest read calm dry still = absurd h
+    by InDoubt h there honest read calm dry still = absurd h
+    by EpochSpent h there honest read calm dry still = absurd h
     by (BadScript n cause) h there honest read calm dry still = absurd (ready_not_bad files name there.script there.tapes n cause there.ready h)
     by (NoFile x) h there honest read calm dry still = absurd (ready_not_absent files name there.script there.tapes x there.ready h)
     by (BadDisk place) h there honest read calm dry still = absurd (read_not_bad disk place read (h.0 honest))
@@ -245,6 +223,10 @@ stopped threads name told a b c d disk new history (BadAu other cause) h = absur
 stopped threads name told a b c d disk new history (BadIndex line) h = absurd h
 stopped threads name told a b c d disk new history (BadNote note place) h = absurd h
 stopped threads name told a b c d disk new history (TooManyKeys count) h = absurd h
+stopped threads name told a b c d disk new history (BadPackets place) h = absurd h
+stopped threads name told a b c d disk new history (JournalFull need left) h = absurd h
+stopped threads name told a b c d disk new history InDoubt h = absurd h
+stopped threads name told a b c d disk new history EpochSpent h = absurd h
 stopped threads name told a b c d disk new history NoMemory h = tt
 
 -- it leaves the files

@@ -32,6 +32,7 @@ pub mod Making
 pub mod Wide
 pub mod MakeWords
 pub mod PacketsWords
+pub mod Mirrored
 pub mod Left
 pub mod Within
 pub mod Starting

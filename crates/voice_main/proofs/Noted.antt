@@ -14,7 +14,7 @@ use Rattle.voice_notes.specs.declared.errors.NoteError.TheVariants as errors
 use Rattle.voice_main.specs.declared.load.LoadError.{LoadError}
 use Rattle.voice_main.specs.declared.load.LoadError.TheVariants as load
 use Rattle.voice_main.specs.declared.status.Status.{Status}
-use Rattle.voice_main.specs.declared.status.Status.TheVariants.{Done, Usage, BadShape, BadScript, NoFile, ShelfFault, SinkFault, BadDisk, DiskFault, NoMemory, BadAu, BadIndex, BadNote, TooManyKeys}
+use Rattle.voice_main.specs.declared.status.Status.TheVariants.{Done, Usage, BadShape, BadScript, NoFile, ShelfFault, SinkFault, BadDisk, DiskFault, NoMemory, BadAu, BadIndex, BadNote, TooManyKeys, BadPackets, JournalFull, InDoubt, EpochSpent}
 use Rattle.voice_main.specs.Load.{bytes_of, AreFiles, FirstAbsent, LoadIs}
 use Rattle.voice_main.specs.Statuses.{load_status_of, note_status_of}
 use Rattle.voice_main.specs.Notes.{keys_of, IsGood, IsIndex, IsBadIndex, AreTooMany, AreNamed, NoteIs, NotesStop}
@@ -142,6 +142,10 @@ note_bad told mid index names notes shelf DiskFault listed kept there h = h
 note_bad told mid index names notes shelf (BadAu name cause) listed kept there h = h
 note_bad told mid index names notes shelf (BadIndex n) listed kept there h = absurd h
 note_bad told mid index names notes shelf (TooManyKeys count) listed kept there h = absurd h
+note_bad told mid index names notes shelf (BadPackets place) listed kept there h = absurd h
+note_bad told mid index names notes shelf (JournalFull need left) listed kept there h = absurd h
+note_bad told mid index names notes shelf InDoubt listed kept there h = absurd h
+note_bad told mid index names notes shelf EpochSpent listed kept there h = absurd h
 
 pub are_named : (told mid : Option Files) (index : List ℕ) (names notes keys : List (List ℕ)) → IfSome told (λ files. IsIndex files index names) → mid ≡ told → IfSome mid (λ files. AreFiles files names notes)
     → Every IsGood notes × (keys ≡ keys_of notes) → length keys ≤ 1024 → IfSome told (λ files. AreNamed files index keys)

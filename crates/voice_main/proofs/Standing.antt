@@ -12,7 +12,7 @@ use Rattle.listening.specs.Looks.{Looked}
 use Rattle.voice_audit.specs.Audit.{audit_of}
 use Rattle.voice_audit.specs.Audit as audit
 use Rattle.voice_main.specs.declared.status.Status.{Status}
-use Rattle.voice_main.specs.declared.status.Status.TheVariants.{Done, Usage, BadShape, BadScript, NoFile, ShelfFault, SinkFault, BadDisk, DiskFault, NoMemory, BadAu, BadIndex, BadNote, TooManyKeys}
+use Rattle.voice_main.specs.declared.status.Status.TheVariants.{Done, Usage, BadShape, BadScript, NoFile, ShelfFault, SinkFault, BadDisk, DiskFault, NoMemory, BadAu, BadIndex, BadNote, TooManyKeys, BadPackets, JournalFull, InDoubt, EpochSpent}
 use Rattle.voice_main.specs.Outside.{Outside, outside, SinkFaulted}
 use Rattle.voice_main.specs.RunPromise.{IsOr}
 use Rattle.voice_main.specs.Statuses.{Prints, open_status_of, IsEarly}
@@ -59,6 +59,10 @@ module _ (files : Option Files) (shelf : ℕ) (contents gained : Option (List �
   printed_comes (BadIndex line) p = absurd p
   printed_comes (BadNote note place) p = absurd p
   printed_comes (TooManyKeys count) p = absurd p
+  printed_comes (BadPackets place) p = absurd p
+  printed_comes (JournalFull need left) p = absurd p
+  printed_comes InDoubt p = absurd p
+  printed_comes EpochSpent p = absurd p
 
   printed_good : (status : Status) → Prints (SinkFaulted was is) status → (status ≡ SinkFault) ⊎ (status ≡ DiskFault) ⊎ IsOr Done status
   printed_good Done p = inr (inr (inl refl))
@@ -75,6 +79,10 @@ module _ (files : Option Files) (shelf : ℕ) (contents gained : Option (List �
   printed_good (BadIndex line) p = absurd p
   printed_good (BadNote note place) p = absurd p
   printed_good (TooManyKeys count) p = absurd p
+  printed_good (BadPackets place) p = absurd p
+  printed_good (JournalFull need left) p = absurd p
+  printed_good InDoubt p = absurd p
+  printed_good EpochSpent p = absurd p
 
   printed_calm : (status : Status) → Prints (SinkFaulted was is) status → (SinkFaulted was is → ⊥) → (status ≡ Done) ⊎ (status ≡ NoMemory)
   printed_calm Done p calm = inl refl
@@ -91,6 +99,10 @@ module _ (files : Option Files) (shelf : ℕ) (contents gained : Option (List �
   printed_calm (BadIndex line) p calm = absurd p
   printed_calm (BadNote note place) p calm = absurd p
   printed_calm (TooManyKeys count) p calm = absurd p
+  printed_calm (BadPackets place) p calm = absurd p
+  printed_calm (JournalFull need left) p calm = absurd p
+  printed_calm InDoubt p calm = absurd p
+  printed_calm EpochSpent p calm = absurd p
 
   printed_done : (o : Option (List ℕ)) → IsTrue disk.honest → IfSome o (λ had. gained ≡ Some (had ++ text)) → IfSome o (λ had. (t : List ℕ) × (audit_of disk.bytes ≡ Some t) × (gained ≡ Some (had ++ t)))
   printed_done None honest p = tt

@@ -14,7 +14,7 @@ use Rattle.voice_store.specs.Stood.{is_fault}
 use Rattle.voice_notes.specs.Anchors.{bad_place}
 use Rattle.voice_notes.specs.Index.{names_in, bad_line}
 use Rattle.voice_main.specs.declared.status.Status.{Status}
-use Rattle.voice_main.specs.declared.status.Status.TheVariants.{Done, Usage, BadShape, BadScript, NoFile, ShelfFault, SinkFault, BadDisk, DiskFault, NoMemory, BadAu, BadIndex, BadNote, TooManyKeys}
+use Rattle.voice_main.specs.declared.status.Status.TheVariants.{Done, Usage, BadShape, BadScript, NoFile, ShelfFault, SinkFault, BadDisk, DiskFault, NoMemory, BadAu, BadIndex, BadNote, TooManyKeys, BadPackets, JournalFull, InDoubt, EpochSpent}
 use Rattle.voice_main.specs.Load.{AreFiles}
 use Rattle.voice_main.specs.Outside.{Outside, outside, SinkFaulted, IsUnchanged}
 use Rattle.voice_main.specs.Ran.{Performed}
@@ -249,6 +249,10 @@ exact index files a b c d disk new history Usage h = absurd h
 exact index files a b c d disk new history BadShape h = absurd h
 exact index files a b c d disk new history (BadScript n cause) h = absurd h
 exact index files a b c d disk new history (BadAu other cause) h = absurd h
+exact index files a b c d disk new history (BadPackets place) h = absurd h
+exact index files a b c d disk new history (JournalFull need left) h = absurd h
+exact index files a b c d disk new history InDoubt h = absurd h
+exact index files a b c d disk new history EpochSpent h = absurd h
 
 no_faults : (index : List ℕ) (files : Files) (a : ℕ) (b : Option (List ℕ)) (c d : ℕ) (disk : Told) (new : Outside) (history : List Entry) → (HasRisen disk.faults new.disk.faults → ⊥) → NotesSoFar index (outside (Some files) a b c d disk) new history → NoFaults history
 no_faults index files a b c d disk new history calm (inl none) = ap (count_by is_fault) none.silent
@@ -265,6 +269,10 @@ complete index files a b c d disk new history status h so_far = λ named honest 
     by BadShape h named honest read calm dry still = absurd h
     by Usage h named honest read calm dry still = absurd h
     by (BadAu other cause) h named honest read calm dry still = absurd h
+    by (BadPackets place) h named honest read calm dry still = absurd h
+    by (JournalFull need left) h named honest read calm dry still = absurd h
+    by InDoubt h named honest read calm dry still = absurd h
+    by EpochSpent h named honest read calm dry still = absurd h
     by (BadScript n cause) h named honest read calm dry still = absurd h
     by (NoFile x) h named honest read calm dry still = let e : Verdict.Absent x ≡ Verdict.Fine = sym (judged_absent files index x h) ∙ judged_fine files index named in cc
     by (BadIndex m) h named honest read calm dry still = let e : Verdict.Line m ≡ Verdict.Fine = sym (judged_line files index m h) ∙ judged_fine files index named in cc
@@ -309,6 +317,10 @@ comes_named index told a b c d disk new keys history (BadScript n cause) named w
 comes_named index told a b c d disk new keys history (NoFile missing) named which done fault = absurd which
 comes_named index told a b c d disk new keys history ShelfFault named which done fault = absurd which
 comes_named index told a b c d disk new keys history (BadAu other cause) named which done fault = absurd which
+comes_named index told a b c d disk new keys history (BadPackets place) named which done fault = absurd which
+comes_named index told a b c d disk new keys history (JournalFull need left) named which done fault = absurd which
+comes_named index told a b c d disk new keys history InDoubt named which done fault = absurd which
+comes_named index told a b c d disk new keys history EpochSpent named which done fault = absurd which
 comes_named index told a b c d disk new keys history (BadIndex n) named which done fault = absurd which
 comes_named index told a b c d disk new keys history (BadNote note place) named which done fault = absurd which
 comes_named index told a b c d disk new keys history (TooManyKeys count) named which done fault = absurd which
@@ -342,6 +354,10 @@ stopped index told a b c d disk new history (NoFile x) h = h
 stopped index told a b c d disk new history ShelfFault h = h
 stopped index told a b c d disk new history NoMemory h = h
 stopped index told a b c d disk new history (BadAu other cause) h = h
+stopped index told a b c d disk new history (BadPackets place) h = h
+stopped index told a b c d disk new history (JournalFull need left) h = h
+stopped index told a b c d disk new history InDoubt h = h
+stopped index told a b c d disk new history EpochSpent h = h
 stopped index told a b c d disk new history (BadIndex n) h = h
 stopped index told a b c d disk new history (BadNote note place) h = h
 stopped index told a b c d disk new history (TooManyKeys count) h = h

@@ -7,6 +7,7 @@ pub mod FormatPromise
 pub mod Load
 pub mod MadeRuns
 pub mod MakePromise
+pub mod MirrorPromise
 pub mod Notes
 pub mod NotesPromise
 pub mod Options
@@ -15,6 +16,7 @@ pub mod Outside
 pub mod PacketsPromise
 pub mod Played
 pub mod Promises
+pub mod PromotionPromise
 pub mod Ran
 pub mod RunPromise
 pub mod Sent

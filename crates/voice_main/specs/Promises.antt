@@ -14,6 +14,8 @@ use Rattle.voice_main.specs.NotesPromise.{NotesPromise}
 use Rattle.voice_main.specs.AuditPromise.{AuditPromise}
 use Rattle.voice_main.specs.MakePromise.{MakePromise}
 use Rattle.voice_main.specs.PacketsPromise.{PacketsPromise}
+use Rattle.voice_main.specs.MirrorPromise.{MirrorPromise}
+use Rattle.voice_main.specs.PromotionPromise.{PromotionPromise}
 
 -- the promise of each command
 abbrev pub Promises : Command → Outside → Outside → Status → List Entry → Type 0
@@ -25,6 +27,8 @@ Promises (Command.Notes index) = NotesPromise index
 Promises Command.Audit = AuditPromise
 Promises (Command.Make seed lines) = MakePromise seed lines
 Promises (Command.Packets script file first) = PacketsPromise script file first
+Promises (Command.Mirror file) = MirrorPromise file
+Promises Command.Promote = PromotionPromise
 
 -- the words are refused, or they say a command, whose promise holds
 abbrev pub Comes : List (List ℕ) → Outside → Outside → Status → List Entry → Type 0

@@ -22,7 +22,7 @@ use Rattle.script_lang.specs.Verbs.{is_built_verb}
 use Rattle.script_lang.specs.Grammar.{IsScript}
 use Rattle.script_lang.specs.Causes.{FirstBad}
 use Rattle.voice_main.specs.declared.status.Status.{Status}
-use Rattle.voice_main.specs.declared.status.Status.TheVariants.{Done, Usage, BadShape, BadScript, NoFile, ShelfFault, SinkFault, BadDisk, DiskFault, NoMemory, BadAu, BadIndex, BadNote, TooManyKeys}
+use Rattle.voice_main.specs.declared.status.Status.TheVariants.{Done, Usage, BadShape, BadScript, NoFile, ShelfFault, SinkFault, BadDisk, DiskFault, NoMemory, BadAu, BadIndex, BadNote, TooManyKeys, BadPackets, JournalFull, InDoubt, EpochSpent}
 use Rattle.voice_main.specs.FormatPromise.{IsLeft}
 use Rattle.voice_main.specs.Load.{FirstAbsent}
 use Rattle.voice_main.specs.Outside.{Outside, ShelfFaulted, SinkFaulted, DiskFaulted, IsUnchanged}
@@ -66,6 +66,10 @@ RunComes threads name old new history (BadAu other cause) = ⊥
 RunComes threads name old new history (BadIndex line) = ⊥
 RunComes threads name old new history (BadNote note place) = ⊥
 RunComes threads name old new history (TooManyKeys count) = ⊥
+RunComes threads name old new history (BadPackets place) = ⊥
+RunComes threads name old new history (JournalFull need left) = ⊥
+RunComes threads name old new history InDoubt = ⊥
+RunComes threads name old new history EpochSpent = ⊥
 RunComes threads name old new history (BadScript n cause) = IfSome old.files (λ files. IsBadScript files name n cause)
 RunComes threads name old new history (NoFile missing) = IfSome old.files (λ files. IsNoFile files name missing)
 RunComes threads name old new history ShelfFault = ShelfFaulted old new

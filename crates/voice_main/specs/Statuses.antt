@@ -20,9 +20,13 @@ use Rattle.script_lang.specs.declared.scripts.Cause.TheVariants as causes
 use Rattle.script_lang.specs.declared.scripts.ScriptError.{ScriptError}
 use Rattle.script_lang.specs.declared.scripts.ScriptError.TheVariants as script
 use Rattle.voice_main.specs.declared.status.Status.{Status}
-use Rattle.voice_main.specs.declared.status.Status.TheVariants.{Done, Usage, BadShape, BadScript, NoFile, ShelfFault, SinkFault, BadDisk, DiskFault, NoMemory, BadAu, BadIndex, BadNote, TooManyKeys}
+use Rattle.voice_main.specs.declared.status.Status.TheVariants.{Done, Usage, BadShape, BadScript, NoFile, ShelfFault, SinkFault, BadDisk, DiskFault, NoMemory, BadAu, BadIndex, BadNote, TooManyKeys, BadPackets, JournalFull, InDoubt, EpochSpent}
 use Rattle.voice_notes.specs.declared.errors.NoteError.{NoteError}
 use Rattle.voice_notes.specs.declared.errors.NoteError.TheVariants as notes
+use Rattle.mirror_packets.specs.declared.errors.PacketError.{PacketError}
+use Rattle.mirror_packets.specs.declared.errors.PacketError.TheVariants as packets
+use Rattle.mirror_commands.specs.declared.promoting.Refusal.{Refusal}
+use Rattle.mirror_commands.specs.declared.promoting.Refusal.TheVariants as promotion
 use Rattle.voice_main.specs.declared.load.LoadError.{LoadError}
 use Rattle.voice_main.specs.declared.load.LoadError.TheVariants as load
 use Rattle.voice_main.specs.RunPromise.{IsBadScript, IsNoFile, IsDamaged}
@@ -43,6 +47,10 @@ code_of (BadAu name cause) = 10
 code_of (BadIndex n) = 11
 code_of (BadNote name place) = 12
 code_of (TooManyKeys count) = 13
+code_of (BadPackets place) = 14
+code_of (JournalFull need left) = 15
+code_of InDoubt = 16
+code_of EpochSpent = 17
 
 -- the cause of a bad line of a script, as the program tells it
 abbrev pub reason_of : Cause → List ℕ
@@ -98,6 +106,7 @@ IsEarly (BadAu name cause) = Unit {0}
 IsEarly (BadIndex n) = Unit {0}
 IsEarly (BadNote name place) = Unit {0}
 IsEarly (TooManyKeys count) = Unit {0}
+IsEarly (BadPackets place) = Unit {0}
 IsEarly _ = ⊥
 
 -- the statuses that are decided before the first call
@@ -128,3 +137,15 @@ abbrev pub open_status_of : OpenError → Status
 open_status_of (opening.BadDisk place) = BadDisk place
 open_status_of opening.DiskFault = DiskFault
 open_status_of opening.NoMemory = NoMemory
+
+abbrev pub packets_status_of : PacketError → Status
+packets_status_of (packets.BadPackets place) = BadPackets place
+packets_status_of packets.NoMemory = NoMemory
+
+abbrev pub refusal_status_of : Refusal → Status
+refusal_status_of (promotion.BadDisk place) = BadDisk place
+refusal_status_of promotion.EpochSpent = EpochSpent
+refusal_status_of (promotion.JournalFull need left) = JournalFull need left
+refusal_status_of promotion.DiskFault = DiskFault
+refusal_status_of promotion.InDoubt = InDoubt
+refusal_status_of promotion.NoMemory = NoMemory

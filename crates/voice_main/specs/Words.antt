@@ -10,7 +10,7 @@ use Rattle.voice_main.specs.declared.options.Given.{Given}
 use Rattle.voice_main.specs.declared.options.FormatNumbers.{FormatNumbers}
 use Rattle.voice_main.specs.Options.{none_given, Gives, numbers_of}
 
--- what the words may ask for: a run of a script in its order, or of each caller's lines on a thread of its own; a disk formatted; a file made of another; a census of the keys that notes name; an audit of the disk; a run of the script that a seed generates, of so many lines; a run of a script whose changes are written as packets to a file, numbered from there on
+-- what the words may ask for: a run of a script in its order, or of each caller's lines on a thread of its own; a disk formatted; a file made of another; a census of the keys that notes name; an audit of the disk; a run of the script that a seed generates, of so many lines; a run of a script whose changes are written as packets to a file, numbered from there on; a mirror that takes the packets of a file; a mirror's disk made a voice disk
 pub data Command : Type 0 where
   Run : List ℕ → Command
   RunThreads : List ℕ → Command
@@ -20,6 +20,8 @@ pub data Command : Type 0 where
   Audit : Command
   Make : ℕ → ℕ → Command
   Packets : List ℕ → List ℕ → ℕ → Command
+  Mirror : List ℕ → Command
+  Promote : Command
 
 -- the run of a script, on threads or not
 abbrev pub run_command : Bool → List ℕ → Command
@@ -50,14 +52,26 @@ pub record IsConversion (way : Way) (words : List (List ℕ)) (source target : L
   pub source_file : IsTrue (is_file source)
   pub target_file : IsTrue (is_file target)
 
+-- they are this one and the name of a file
+pub record IsNamed (word : List ℕ) (words : List (List ℕ)) (name : List ℕ) : Type 0 where
+  pub form : words ≡ word ∷ name ∷ []
+  pub file : IsTrue (is_file name)
+
 -- they are `notes INDEX`
-pub record IsNotes (words : List (List ℕ)) (index : List ℕ) : Type 0 where
-  pub form : words ≡ codes "notes" ∷ index ∷ []
-  pub file : IsTrue (is_file index)
+abbrev pub IsNotes : List (List ℕ) → List ℕ → Type 0
+IsNotes words index = IsNamed (codes "notes") words index
+
+-- they are `mirror FILE`
+abbrev pub IsMirror : List (List ℕ) → List ℕ → Type 0
+IsMirror words file = IsNamed (codes "mirror") words file
 
 -- they are `audit`
 abbrev pub IsAudit : List (List ℕ) → Type 0
 IsAudit words = words ≡ codes "audit" ∷ []
+
+-- they are `promote`
+abbrev pub IsPromotion : List (List ℕ) → Type 0
+IsPromotion words = words ≡ codes "promote" ∷ []
 
 -- they are `make SEED LINES`, numbers in decimal digits, the second one from 1 to 65,535
 pub record IsMake (words : List (List ℕ)) (seed lines : ℕ) : Type 0 where
@@ -83,6 +97,8 @@ Says words (Command.Notes index) = IsNotes words index
 Says words Command.Audit = IsAudit words
 Says words (Command.Make seed lines) = IsMake words seed lines
 Says words (Command.Packets script file first) = IsPackets words script file first
+Says words (Command.Mirror file) = IsMirror words file
+Says words Command.Promote = IsPromotion words
 
 -- the words ask for nothing that the program knows
 abbrev pub IsRefused : List (List ℕ) → Type 0
@@ -100,13 +116,25 @@ IsNoFormat words = (numbers : FormatNumbers) → IsFormat words numbers → ⊥
 abbrev pub IsNoConversion : List (List ℕ) → Type 0
 IsNoConversion words = (way : Way) (source target : List ℕ) → IsConversion way words source target → ⊥
 
+-- they are no such word with the name of a file
+abbrev pub IsNotNamed : List ℕ → List (List ℕ) → Type 0
+IsNotNamed word words = (name : List ℕ) → IsNamed word words name → ⊥
+
 -- they ask for no census of notes
 abbrev pub IsNoNotes : List (List ℕ) → Type 0
-IsNoNotes words = (index : List ℕ) → IsNotes words index → ⊥
+IsNoNotes words = IsNotNamed (codes "notes") words
+
+-- they feed no mirror
+abbrev pub IsNoMirror : List (List ℕ) → Type 0
+IsNoMirror words = IsNotNamed (codes "mirror") words
 
 -- they ask for no audit
 abbrev pub IsNoAudit : List (List ℕ) → Type 0
 IsNoAudit words = IsAudit words → ⊥
+
+-- they promote no mirror
+abbrev pub IsNoPromotion : List (List ℕ) → Type 0
+IsNoPromotion words = IsPromotion words → ⊥
 
 -- they ask for no generated script
 abbrev pub IsNoMake : List (List ℕ) → Type 0

@@ -9,6 +9,7 @@ mod convert;
 mod format;
 mod load;
 mod make;
+mod mirror_calls;
 mod notes;
 mod numbers;
 mod options;

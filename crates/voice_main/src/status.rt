@@ -50,6 +50,18 @@ pub enum Status {
     /// Notes name so many keys.
     #[error("voice: {0} keys are too many")]
     TooManyKeys(u64),
+    /// At that byte of the file its first packet begins that is not good.
+    #[error("voice: the packets are damaged at byte {0}")]
+    BadPackets(u64),
+    /// What a mirror has takes the first number of bytes as records, and an area of its journal has room for the second.
+    #[error("voice: the journal is full")]
+    JournalFull(u128, u64),
+    /// The disk failed where a promotion may have counted: it is the mirror's, or a voice disk that has the same.
+    #[error("voice: the change is in doubt")]
+    InDoubt,
+    /// A mirror's journal has no further epoch.
+    #[error("voice: no further epoch")]
+    EpochSpent,
 }
 
 // The cause of a bad line of a script, as the program tells it.
@@ -86,6 +98,10 @@ impl Status {
             Status::BadIndex(_) => 11,
             Status::BadNote(_, _) => 12,
             Status::TooManyKeys(_) => 13,
+            Status::BadPackets(_) => 14,
+            Status::JournalFull(_, _) => 15,
+            Status::InDoubt => 16,
+            Status::EpochSpent => 17,
         }
     }
 }

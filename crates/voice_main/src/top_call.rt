@@ -8,7 +8,7 @@ ghost use Rattle.script_lang.specs.Verbs.{is_built_verb};
 ghost use Rattle.script_lang.specs.Whole.{IsWhole};
 ghost use Rattle.voice_store.specs.Facts.{GoesOn};
 ghost use Rattle.served_files.specs.Files.{AreEnough, queues_of};
-ghost use Rattle.voice_main.specs.Words.{Command, Says, IsRefused, IsConversion, IsNoRun, IsNoConversion, IsNoAudit, IsNoNotes, IsNoMake, IsNoPackets};
+ghost use Rattle.voice_main.specs.Words.{Command, Says, IsRefused, IsConversion, IsNoRun, IsNoConversion, IsNoAudit, IsNoNotes, IsNoMake, IsNoMirror, IsNoPromotion, IsNoPackets};
 ghost use Rattle.voice_main.specs.declared.convert.Way.{Way as WayValue};
 ghost use Rattle.voice_main.specs.Outside.{outside, IsUnchanged};
 ghost use Rattle.voice_main.specs.Ran.{IsReady, Performed, Begun, MadeGiving};
@@ -25,6 +25,7 @@ use crate::convert::convert;
 use crate::format::format;
 use crate::load::{file, files, load_status};
 use crate::make::make;
+use crate::mirror_calls::run_mirror_or_other;
 use crate::options::format_numbers;
 use crate::output::print;
 use crate::packets::packets;
@@ -184,8 +185,8 @@ fn run_script<R: Threads + Wait + Sync, K: Shelf, O: Sink, D: Disk, G: Gate>(
     }
 }
 
-// Runs a script or formats the disk, as the words say.
-fn run_or_format<R: Threads + Wait + Sync, K: Shelf, O: Sink, D: Disk, G: Gate>(
+/// Runs a script or formats the disk, as the words say.
+pub(crate) fn run_or_format<R: Threads + Wait + Sync, K: Shelf, O: Sink, D: Disk, G: Gate>(
     rt: &R,
     alloc: Global,
     words: &[String],
@@ -199,6 +200,8 @@ fn run_or_format<R: Threads + Wait + Sync, K: Shelf, O: Sink, D: Disk, G: Gate>(
     requires audit { IsNoAudit (map string_bytes words.now) }
     requires notes { IsNoNotes (map string_bytes words.now) }
     requires make { IsNoMake (map string_bytes words.now) }
+    requires mirror { IsNoMirror (map string_bytes words.now) }
+    requires promotion { IsNoPromotion (map string_bytes words.now) }
     // The words are refused, or they say a command, whose promise holds.
     ensures comes { Comes (map string_bytes words.now) (outside (K.files shelf.old) (K.faults shelf.old) (O.contents out.old) (O.faults out.old) (O.empty_takes out.old) (D.told disk)) (outside (K.files shelf.new) (K.faults shelf.new) (O.contents out.new) (O.faults out.new) (O.empty_takes out.new) (D.told result.disk)) result.status result.history.items }
     // The promise of whatever command the words say holds.
@@ -254,7 +257,7 @@ fn run_or_format<R: Threads + Wait + Sync, K: Shelf, O: Sink, D: Disk, G: Gate>(
     )
 }
 
-// Runs a generated script or one of a file, or formats the disk, as the words say.
+// Runs a generated script or one of a file, feeds or promotes a mirror, or formats the disk, as the words say.
 fn run_make_or_other<R: Threads + Wait + Sync, K: Shelf, O: Sink, D: Disk, G: Gate>(
     rt: &R,
     alloc: Global,
@@ -275,8 +278,8 @@ fn run_make_or_other<R: Threads + Wait + Sync, K: Shelf, O: Sink, D: Disk, G: Ga
     // Usage comes exactly where the words are refused.
     ensures usage { IsRefused (map string_bytes words.now) → result.status ≡ Status.Usage }
     ensures refused { result.status ≡ Status.Usage → IsRefused (map string_bytes words.now) }
-    // What stands after any status: the front of the text that the sink took, but for a generated script, and the files, but for a run, whose promises tell them.
-    ensures prefix { IsNoMake (map string_bytes words.now) → IfSome (O.contents out.old) (λ had. (n : ℕ) × (O.contents out.new ≡ Some (had ++ take n (text_of result.history.items)))) }
+    // What stands after any status: the front of the text that the sink took, but for a generated script and a mirror that takes packets, and the files, but for a run, whose promises tell them.
+    ensures prefix { IsNoMake (map string_bytes words.now) → IsNoMirror (map string_bytes words.now) → IfSome (O.contents out.old) (λ had. (n : ℕ) × (O.contents out.new ≡ Some (had ++ take n (text_of result.history.items)))) }
     ensures files { IsNoRun (map string_bytes words.now) → K.files shelf.new ≡ K.files shelf.old }
     // A status that is decided before the first call leaves no history and prints nothing; one that is decided before the disk is touched leaves the disk.
     ensures silent { IsSilent result.status → (result.history.items ≡ []) × (O.contents out.new ≡ O.contents out.old) }
@@ -289,7 +292,7 @@ fn run_make_or_other<R: Threads + Wait + Sync, K: Shelf, O: Sink, D: Disk, G: Ga
     ensures disk { GoesOn (D.told disk) (D.told result.disk) }
 {
     let Some(asked) = make_words(words) else {
-        return run_or_format(rt, alloc, words, shelf, out, disk, gate);
+        return run_mirror_or_other(rt, alloc, words, shelf, out, disk, gate);
     };
     make(alloc, asked, out, disk, gate)
 }
@@ -314,8 +317,8 @@ fn run_notes_or_other<R: Threads + Wait + Sync, K: Shelf, O: Sink, D: Disk, G: G
     // Usage comes exactly where the words are refused.
     ensures usage { IsRefused (map string_bytes words.now) → result.status ≡ Status.Usage }
     ensures refused { result.status ≡ Status.Usage → IsRefused (map string_bytes words.now) }
-    // What stands after any status: the front of the text that the sink took, but for a generated script, and the files, but for a run, whose promises tell them.
-    ensures prefix { IsNoMake (map string_bytes words.now) → IfSome (O.contents out.old) (λ had. (n : ℕ) × (O.contents out.new ≡ Some (had ++ take n (text_of result.history.items)))) }
+    // What stands after any status: the front of the text that the sink took, but for a generated script and a mirror that takes packets, and the files, but for a run, whose promises tell them.
+    ensures prefix { IsNoMake (map string_bytes words.now) → IsNoMirror (map string_bytes words.now) → IfSome (O.contents out.old) (λ had. (n : ℕ) × (O.contents out.new ≡ Some (had ++ take n (text_of result.history.items)))) }
     ensures files { IsNoRun (map string_bytes words.now) → K.files shelf.new ≡ K.files shelf.old }
     // A status that is decided before the first call leaves no history and prints nothing; one that is decided before the disk is touched leaves the disk.
     ensures silent { IsSilent result.status → (result.history.items ≡ []) × (O.contents out.new ≡ O.contents out.old) }
@@ -352,8 +355,8 @@ fn run_audit_or_other<R: Threads + Wait + Sync, K: Shelf, O: Sink, D: Disk, G: G
     // Usage comes exactly where the words are refused.
     ensures usage { IsRefused (map string_bytes words.now) → result.status ≡ Status.Usage }
     ensures refused { result.status ≡ Status.Usage → IsRefused (map string_bytes words.now) }
-    // What stands after any status: the front of the text that the sink took, but for an audit and a generated script, and the files, but for a run; their promises say what becomes of them.
-    ensures prefix { IsNoAudit (map string_bytes words.now) → IsNoMake (map string_bytes words.now) → IfSome (O.contents out.old) (λ had. (n : ℕ) × (O.contents out.new ≡ Some (had ++ take n (text_of result.history.items)))) }
+    // What stands after any status: the front of the text that the sink took, but for an audit, a generated script and a mirror that takes packets, and the files, but for a run; their promises say what becomes of them.
+    ensures prefix { IsNoAudit (map string_bytes words.now) → IsNoMake (map string_bytes words.now) → IsNoMirror (map string_bytes words.now) → IfSome (O.contents out.old) (λ had. (n : ℕ) × (O.contents out.new ≡ Some (had ++ take n (text_of result.history.items)))) }
     ensures files { IsNoRun (map string_bytes words.now) → K.files shelf.new ≡ K.files shelf.old }
     // A status that is decided before the first call leaves no history and prints nothing; one that is decided before the disk is touched leaves the disk.
     ensures silent { IsSilent result.status → (result.history.items ≡ []) × (O.contents out.new ≡ O.contents out.old) }
@@ -389,8 +392,8 @@ fn run_conversion_or_other<R: Threads + Wait + Sync, K: Shelf, O: Sink, D: Disk,
     // Usage comes exactly where the words are refused.
     ensures usage { IsRefused (map string_bytes words.now) → result.status ≡ Status.Usage }
     ensures refused { result.status ≡ Status.Usage → IsRefused (map string_bytes words.now) }
-    // What stands after any status: the front of the text that the sink took, but for an audit and a generated script, and the files, but for a conversion and a run; their promises say what becomes of them.
-    ensures prefix { IsNoAudit (map string_bytes words.now) → IsNoMake (map string_bytes words.now) → IfSome (O.contents out.old) (λ had. (n : ℕ) × (O.contents out.new ≡ Some (had ++ take n (text_of result.history.items)))) }
+    // What stands after any status: the front of the text that the sink took, but for an audit, a generated script and a mirror that takes packets, and the files, but for a conversion and a run; their promises say what becomes of them.
+    ensures prefix { IsNoAudit (map string_bytes words.now) → IsNoMake (map string_bytes words.now) → IsNoMirror (map string_bytes words.now) → IfSome (O.contents out.old) (λ had. (n : ℕ) × (O.contents out.new ≡ Some (had ++ take n (text_of result.history.items)))) }
     ensures files { IsNoConversion (map string_bytes words.now) → IsNoRun (map string_bytes words.now) → K.files shelf.new ≡ K.files shelf.old }
     // A status that is decided before the first call leaves no history and prints nothing; one that is decided before the disk is touched leaves the disk.
     ensures silent { IsSilent result.status → (result.history.items ≡ []) × (O.contents out.new ≡ O.contents out.old) }
@@ -432,8 +435,8 @@ pub fn run<R: Threads + Wait + Sync, K: Shelf, O: Sink, D: Disk, G: Gate>(
     // Usage comes exactly where the words are refused.
     ensures usage { IsRefused (map string_bytes words.now) → result.status ≡ Status.Usage }
     ensures refused { result.status ≡ Status.Usage → IsRefused (map string_bytes words.now) }
-    // What stands after any status: the front of the text that the sink took, but for packets, an audit and a generated script, and the files, but for packets, a conversion and a run; their promises say what becomes of them.
-    ensures prefix { IsNoPackets (map string_bytes words.now) → IsNoAudit (map string_bytes words.now) → IsNoMake (map string_bytes words.now) → IfSome (O.contents out.old) (λ had. (n : ℕ) × (O.contents out.new ≡ Some (had ++ take n (text_of result.history.items)))) }
+    // What stands after any status: the front of the text that the sink took, but for packets, an audit, a generated script and a mirror that takes packets, and the files, but for packets, a conversion and a run; their promises say what becomes of them.
+    ensures prefix { IsNoPackets (map string_bytes words.now) → IsNoAudit (map string_bytes words.now) → IsNoMake (map string_bytes words.now) → IsNoMirror (map string_bytes words.now) → IfSome (O.contents out.old) (λ had. (n : ℕ) × (O.contents out.new ≡ Some (had ++ take n (text_of result.history.items)))) }
     ensures files { IsNoPackets (map string_bytes words.now) → IsNoConversion (map string_bytes words.now) → IsNoRun (map string_bytes words.now) → K.files shelf.new ≡ K.files shelf.old }
     // A status that is decided before the first call leaves no history and prints nothing; one that is decided before the disk is touched leaves the disk.
     ensures silent { IsSilent result.status → (result.history.items ≡ []) × (O.contents out.new ≡ O.contents out.old) }

@@ -3,7 +3,7 @@
 ghost use Rattle.std.specs.Prelude.{ℕ, List, ◌≡◌, [], ◌∷◌, length, MatchOption, map, string_bytes, true, false};
 ghost use Rattle.script_lang.specs.Forms.{is_file};
 ghost use Rattle.voice_main.specs.Conversions.{way_word};
-ghost use Rattle.voice_main.specs.Words.{Says, run_command, IsNoRun, IsConversion, IsNoConversion, IsNotes, IsNoNotes, IsAudit, IsNoAudit, IsMake, IsNoMake, IsPackets, IsNoPackets};
+ghost use Rattle.voice_main.specs.Words.{Says, run_command, IsNoRun, IsConversion, IsNoConversion, IsNamed, IsNotNamed, IsNotes, IsNoNotes, IsMirror, IsNoMirror, IsAudit, IsNoAudit, IsPromotion, IsNoPromotion, IsMake, IsNoMake, IsPackets, IsNoPackets};
 ghost use Rattle.voice_main.specs.declared.convert.Way.{Way as WayValue};
 
 use crate::convert::{Conversion, Way};
@@ -101,24 +101,49 @@ pub fn run_words(words: &[String]) -> Option<RunWords>
     run_serial(verb.as_bytes(), name.as_bytes())
 }
 
-// The words `notes INDEX`.
-fn notes_of(verb: &[u8], index: &[u8]) -> Option<Name>
-    ensures { MatchOption result (IsNoNotes (verb.now ∷ index.now ∷ [])) (λ name. IsNotes (verb.now ∷ index.now ∷ []) name) }
+// A word, and behind it the name of a file.
+fn named_of(word: &[u8], verb: &[u8], name: &[u8]) -> Option<Name>
+    ensures { MatchOption result (IsNotNamed word.now (verb.now ∷ name.now ∷ [])) (λ n. IsNamed word.now (verb.now ∷ name.now ∷ []) n) }
 {
-    if verb != b"notes".as_slice() {
+    if verb != word {
         return None;
     }
-    file_name(index)
+    file_name(name)
+}
+
+// The file that words name behind this one; `None` exactly for other words.
+fn named(word: &[u8], words: &[String]) -> Option<Name>
+    ensures { MatchOption result (IsNotNamed word.now (map string_bytes words.now)) (λ n. IsNamed word.now (map string_bytes words.now) n) }
+{
+    let [verb, name] = words else {
+        return None;
+    };
+    named_of(word, verb.as_bytes(), name.as_bytes())
 }
 
 /// The index whose notes the words ask for; `None` exactly for words that ask for none.
 pub fn notes_words(words: &[String]) -> Option<Name>
     ensures { MatchOption result (IsNoNotes (map string_bytes words.now)) (λ name. IsNotes (map string_bytes words.now) name) }
 {
-    let [verb, index] = words else {
-        return None;
+    named(b"notes".as_slice(), words)
+}
+
+/// The file whose packets a mirror is to take; `None` exactly for words that name none.
+pub fn mirror_words(words: &[String]) -> Option<Name>
+    ensures { MatchOption result (IsNoMirror (map string_bytes words.now)) (λ name. IsMirror (map string_bytes words.now) name) }
+{
+    named(b"mirror".as_slice(), words)
+}
+
+// Whether there is just this word.
+fn is_one(word: &[u8], words: &[String]) -> bool
+    ensures yes { result ≡ true → map string_bytes words.now ≡ word.now ∷ [] }
+    ensures no { result ≡ false → map string_bytes words.now ≡ word.now ∷ [] → ⊥ }
+{
+    let [verb] = words else {
+        return false;
     };
-    notes_of(verb.as_bytes(), index.as_bytes())
+    verb.as_bytes() == word
 }
 
 /// Whether the words are `audit`.
@@ -126,10 +151,15 @@ pub fn is_audit(words: &[String]) -> bool
     ensures yes { result ≡ true → IsAudit (map string_bytes words.now) }
     ensures no { result ≡ false → IsNoAudit (map string_bytes words.now) }
 {
-    let [verb] = words else {
-        return false;
-    };
-    verb.as_bytes() == b"audit".as_slice()
+    is_one(b"audit".as_slice(), words)
+}
+
+/// Whether the words are `promote`.
+pub fn is_promotion(words: &[String]) -> bool
+    ensures yes { result ≡ true → IsPromotion (map string_bytes words.now) }
+    ensures no { result ≡ false → IsNoPromotion (map string_bytes words.now) }
+{
+    is_one(b"promote".as_slice(), words)
 }
 
 // The words `make SEED LINES`.

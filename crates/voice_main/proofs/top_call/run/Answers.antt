@@ -31,7 +31,7 @@ returns-clause-refused g c =
     refused_of words old new c.packets.result.status c.packets.result.history.items (packets_comes words asked.script asked.file asked.first old new c.packets.result.status c.packets.result.history.items c.in-Some.ensures c.packets.ensures.promise)
 
 pub returns-clause-prefix : goal.returns-clause-prefix
-returns-clause-prefix g c = λ none _ _. absurd (none c.in-Some.asked.script c.in-Some.asked.file c.in-Some.asked.first c.in-Some.ensures)
+returns-clause-prefix g c = λ none _ _ _. absurd (none c.in-Some.asked.script c.in-Some.asked.file c.in-Some.asked.first c.in-Some.ensures)
 
 pub returns-clause-files : goal.returns-clause-files
 returns-clause-files g c = λ none _ _. absurd (none c.in-Some.asked.script c.in-Some.asked.file c.in-Some.asked.first c.in-Some.ensures)

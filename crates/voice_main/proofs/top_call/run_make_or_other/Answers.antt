@@ -39,7 +39,7 @@ returns-clause-refused g c =
     refused_of words old new c.make.result.status c.make.result.history.items (make_comes words seed lines old new c.make.result.status c.make.result.history.items c.in-Some.ensures promise)
 
 pub returns-clause-prefix : goal.returns-clause-prefix
-returns-clause-prefix g c = λ none. absurd (none c.in-Some.asked.seed c.in-Some.asked.lines c.in-Some.ensures)
+returns-clause-prefix g c = λ none _. absurd (none c.in-Some.asked.seed c.in-Some.asked.lines c.in-Some.ensures)
 
 pub returns-clause-early : goal.returns-clause-early
 returns-clause-early g c = λ early. absurd (c.make.ensures.late early)

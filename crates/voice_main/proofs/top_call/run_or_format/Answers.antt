@@ -10,15 +10,15 @@ use Rattle.voice_main.proofs.top_call.run_or_format.Goals as goal
 
 pub returns-in_default-format_numbers-clause-comes : goal.returns-in_default-format_numbers-clause-comes
 returns-in_default-format_numbers-clause-comes g c =
-    inl (refused_by (map string_bytes c.args.words.now) c.in_default.ensures c.in_default-format_numbers.ensures c.requires.packets c.requires.conversion c.requires.audit c.requires.notes c.requires.make, refl)
+    inl (refused_by (map string_bytes c.args.words.now) c.in_default.ensures c.in_default-format_numbers.ensures c.requires.packets c.requires.conversion c.requires.audit c.requires.notes c.requires.make c.requires.mirror c.requires.promotion, refl)
 
 pub returns-in_default-format_numbers-clause-promise : goal.returns-in_default-format_numbers-clause-promise
 returns-in_default-format_numbers-clause-promise g c =
-    λ command said. absurd (refused_by (map string_bytes c.args.words.now) c.in_default.ensures c.in_default-format_numbers.ensures c.requires.packets c.requires.conversion c.requires.audit c.requires.notes c.requires.make command said)
+    λ command said. absurd (refused_by (map string_bytes c.args.words.now) c.in_default.ensures c.in_default-format_numbers.ensures c.requires.packets c.requires.conversion c.requires.audit c.requires.notes c.requires.make c.requires.mirror c.requires.promotion command said)
 
 pub returns-in_default-format_numbers-clause-refused : goal.returns-in_default-format_numbers-clause-refused
 returns-in_default-format_numbers-clause-refused g c =
-    λ _. refused_by (map string_bytes c.args.words.now) c.in_default.ensures c.in_default-format_numbers.ensures c.requires.packets c.requires.conversion c.requires.audit c.requires.notes c.requires.make
+    λ _. refused_by (map string_bytes c.args.words.now) c.in_default.ensures c.in_default-format_numbers.ensures c.requires.packets c.requires.conversion c.requires.audit c.requires.notes c.requires.make c.requires.mirror c.requires.promotion
 
 pub returns-in_default-assigned-clause-comes : goal.returns-in_default-assigned-clause-comes
 returns-in_default-assigned-clause-comes g c =
@@ -30,7 +30,7 @@ pub returns-in_default-assigned-clause-promise : goal.returns-in_default-assigne
 returns-in_default-assigned-clause-promise g c =
     let words = map string_bytes c.args.words.now in
     let old : Outside = outside (g.K.Shelf.files c.args.shelf.now) (g.K.Shelf.faults c.args.shelf.now) (g.O.Sink.contents c.args.out.now) (g.O.Sink.faults c.args.out.now) (g.O.Sink.empty_takes c.args.out.now) (g.D.Disk.told c.args.disk) in
-    format_only words old old NoMemory c.new-in_default-assigned.result.items c.in_default.ensures c.requires.packets c.requires.conversion c.requires.audit c.requires.notes c.requires.make (λ numbers asked. record { comes = record { bytes = refl; calls = refl; faults = refl }; formatted = λ is. absurd (no_memory_done is); silent = c.new-in_default-assigned.ensures.items; quiet = refl })
+    format_only words old old NoMemory c.new-in_default-assigned.result.items c.in_default.ensures c.requires.packets c.requires.conversion c.requires.audit c.requires.notes c.requires.make c.requires.mirror c.requires.promotion (λ numbers asked. record { comes = record { bytes = refl; calls = refl; faults = refl }; formatted = λ is. absurd (no_memory_done is); silent = c.new-in_default-assigned.ensures.items; quiet = refl })
 
 pub returns-in_default-assigned-clause-usage : goal.returns-in_default-assigned-clause-usage
 returns-in_default-assigned-clause-usage g c =
@@ -55,7 +55,7 @@ returns-in_default-clause-promise g c =
     let words = map string_bytes c.args.words.now in
     let old : Outside = outside (g.K.Shelf.files c.args.shelf.now) (g.K.Shelf.faults c.args.shelf.now) (g.O.Sink.contents c.args.out.now) (g.O.Sink.faults c.args.out.now) (g.O.Sink.empty_takes c.args.out.now) (g.D.Disk.told c.args.disk) in
     let new : Outside = outside (g.K.Shelf.files c.args.shelf.now) (g.K.Shelf.faults c.args.shelf.now) (g.O.Sink.contents c.args.out.now) (g.O.Sink.faults c.args.out.now) (g.O.Sink.empty_takes c.args.out.now) (g.D.Disk.told c.format-status.result.1) in
-    format_only words old new c.format-status.result.0 c.new-in_default.result.items c.in_default.ensures c.requires.packets c.requires.conversion c.requires.audit c.requires.notes c.requires.make (λ numbers asked. record {
+    format_only words old new c.format-status.result.0 c.new-in_default.result.items c.in_default.ensures c.requires.packets c.requires.conversion c.requires.audit c.requires.notes c.requires.make c.requires.mirror c.requires.promotion (λ numbers asked. record {
       comes = (let P : FormatNumbers → Type 0 = λ n. FormatStatus n (g.D.Disk.told c.args.disk) (g.D.Disk.told c.format-status.result.1) c.format-status.result.0 in subst P (c.in-Some-assigned.ensures numbers asked) c.format-status.ensures.status);
       formatted = λ done honest image left. (let P : FormatNumbers → Type 0 = λ n. Formats n (g.D.Disk.told c.args.disk).bytes image in subst P (c.in-Some-assigned.ensures numbers asked) (c.format-status.ensures.images done honest image left));
       silent = c.new-in_default.ensures.items;

@@ -1,8 +1,4 @@
-use Rattle.std.proofs.Common.{◌≡◌, sym, ◌∙◌, arith, rules}
-use Rattle.std.specs.Fmt.{decimal}
-use Rattle.script_lang.specs.Numbers.{number_at_most}
-use Rattle.script_lang.proofs.Digits.{number-again, number-found}
-use Rattle.voice_main.specs.Words.{IsMake}
+use Rattle.std.proofs.Common.{sym, ◌∙◌, arith, rules}
 use Rattle.voice_main.proofs.MakeWords.{no_number, not_so_many, says_make}
 use Rattle.voice_main.proofs.words.making_of.Goals as goal
 
