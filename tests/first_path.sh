@@ -98,7 +98,7 @@ before=$(ls -A "$work" | grep -v '^\.' | sort)
 expect 'no file is made' [ "$before" = "$(ls -A "$work" | grep -v '^\.' | sort)" ]
 
 expect 'help' sh -c "'$top/voice' --help | grep -q '^  voice run NAME'"
-expect 'help is a page' [ "$("$top/voice" --help | wc -l)" -le 40 ]
+expect 'help is a page' [ "$("$top/voice" --help | wc -l)" -le 43 ]
 
 # The lines that help shows are a script.
 "$top/voice" --help | sed -n 's/^  CALLER .*  \([12] .*\)$/\1/p' >"$work/help.vs"

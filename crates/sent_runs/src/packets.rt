@@ -1,43 +1,15 @@
 //! The packets of a run, the line behind its text, and what is refused.
 
-use disk_uses::steps::{Did, disk_of, format};
+use crate::runs::{F20, ROWS, Ran, run_on, shelf_with, small_disk};
 use mirror_packets::parse;
 use std::alloc::Global;
 use std::process::Abort;
 use std::sync::Wait;
 use std::test::Fail;
 use std::thread::Threads;
-use voice_disk::MemDisk;
-use voice_main::{Status, run};
-use voice_outside::{MemShelf, MemSink, OpenGate, Shelf};
+use voice_main::Status;
+use voice_outside::Shelf;
 use voice_units::Name;
-
-const F20: &[u8; 20] = b"ABCDEFGHIJKLMNOPQRST";
-
-// A disk of the small shape and a version, whose listed calls fail; formatting makes the calls 1 to 3.
-fn small_disk(alloc: Global, version: u32, fails: &[u64]) -> Result<MemDisk, Fail> {
-    let mut disk = disk_of(alloc, 0x55, fails)?;
-    match format(&mut disk, version) {
-        Did::Done => Ok(disk),
-        _ => Err(Fail::from("no disk")),
-    }
-}
-
-// A shelf with the script `s` and the file `f20`, whose listed calls fail.
-fn shelf_of(alloc: Global, script: &[u8], fails: &[u64]) -> Result<MemShelf, Fail> {
-    let mut files = Vec::new(alloc);
-    files.push((Name::new(b"s")?, script.to_vec(alloc)?))?;
-    files.push((Name::new(b"f20")?, F20.to_vec(alloc)?))?;
-    Ok(MemShelf::new(alloc, files, fails.to_vec(alloc)?))
-}
-
-fn words_of(alloc: Global, asked: &[&str]) -> Result<Vec<String>, Fail> {
-    let mut words = Vec::new(alloc);
-    for word in asked {
-        words.push(String::from_str(alloc, word)?)?;
-    }
-    Ok(words)
-}
 
 // What a run came to: its status, its text, and the files `p` and `h`, if they are there.
 #[derive(Drop)]
@@ -56,24 +28,24 @@ fn run_words<R: Threads + Wait + Sync>(
     script: &[u8],
     (version, disk_fails, shelf_fails): (u32, &[u64], &[u64]),
 ) -> Result<Outcome, Fail> {
-    let words = words_of(alloc, asked)?;
     let disk = small_disk(alloc, version, disk_fails)?;
-    let mut shelf = shelf_of(alloc, script, shelf_fails)?;
-    let mut sink = MemSink::new(alloc, Vec::new(alloc));
-    let ended = run(rt, alloc, &words, &mut shelf, &mut sink, disk, &OpenGate);
+    let mut shelf = shelf_with(alloc, &[(b"s".as_slice(), script)], shelf_fails)?;
+    let Ran {
+        status,
+        text,
+        disk: _,
+    } = run_on(rt, alloc, asked, &mut shelf, &[], disk)?;
     let packets = shelf.get(&Name::new(b"p")?).unwrap_or(None);
     let heard = shelf.get(&Name::new(b"h")?).unwrap_or(None);
     Ok(Outcome {
-        status: ended.status,
-        text: sink.bytes().to_vec(alloc)?,
+        status,
+        text,
         packets,
         heard,
     })
 }
 
-const ROWS: &[u8] = b"1 a = record f20\n1 retain held k a -\n1 forget held k\n";
-
-// The packets 1 to 3 of these lines: a voice file of 20 samples, a row, and its end.
+// The packets 1 to 3 of `ROWS`: a voice file of 20 samples, a row, and its end.
 const FIRST: &[u8] = &[
     0, 0, 0, 0, 0, 0, 0, 1, 0, 0, 0, 29, 0x20, 0, 0, 0, 0, 0, 0, 0, 1,
 ];
