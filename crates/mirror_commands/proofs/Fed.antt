@@ -1,27 +1,45 @@
 -- A mirror that was opened and served: what its packets came to.
 use Rattle.std.proofs.Common.{◌∙◌, ℕ, ◌+◌, ◌≤◌, Bool, List, IsTrue, inr, refl, sym, subst, arith}
 use Rattle.voice_outside.specs.Disk.{Told}
+use Rattle.voice_units.specs.declared.shapes.Shape.{Shape}
 use Rattle.voice_journal.specs.Looks.{Looks}
 use Rattle.crash_laws.specs.Standing.{IsHonest}
 use Rattle.voice_model.specs.Samples.{Tagged}
 use Rattle.voice_model.specs.State.{Durable, Effect}
 use Rattle.mirror_packets.specs.Packets.{Packet}
+use Rattle.mirror_readings.specs.Readings.{MirrorReading}
 use Rattle.mirror_effects.specs.Laws.{FrontsGrow}
 use Rattle.voice_mirror.specs.declared.answers.Taken.{Taken}
 use Rattle.voice_mirror.specs.Shown.{MirrorState, IsOpened, IsRead}
-use Rattle.voice_mirror.specs.Serving.{Serves, AreHeld, HaveRisen, HasFront}
-use Rattle.voice_mirror.specs.Serving as serving
+use Rattle.voice_mirror.specs.Promoting.{Goes}
+use Rattle.voice_mirror.specs.Serving.{Serves, AreHeld, HaveRisen, HasFront, packets_calls}
 use Rattle.voice_mirror.proofs.Fronted.{front_opened, front_since, front_now}
-use Rattle.mirror_commands.specs.Feeding.{AreOfList, KeepsFronts, EndsWith, IsServed, Stays, GoesOn, ServesFronts}
+use Rattle.mirror_commands.specs.Feeding.{AreOfList, KeepsFronts, EndsWith, IsServed, Stays, GoesOn, ServesFronts, block_of, IsBounded}
 
 -- the counts of a disk behind an opening and what followed
-pub goes_by : (old mid new : Told) → Looks 6 old mid → serving.GoesOn mid new → GoesOn old new
-goes_by old mid new looks goes =
+pub goes_by : (most : ℕ) (old mid new : Told) → Looks 6 old mid → Goes most mid new → Goes (6 + most) old new
+goes_by most old mid new looks goes =
     let a = looks.later in
     let b = goes.later in
     let c = looks.faults in
     let d = goes.faults in
-    record { size = goes.size ∙ looks.size; honest = goes.honest ∙ looks.honest; later = omega (arith, a, b); faults = omega (arith, c, d) }
+    let e = looks.calls in
+    let f = goes.calls in
+    record { size = goes.size ∙ looks.size; honest = goes.honest ∙ looks.honest; later = omega (arith, a, b); calls = omega (arith, e, f); faults = omega (arith, c, d) }
+
+pub goes_on : (most : ℕ) (old new : Told) → Goes most old new → GoesOn old new
+goes_on most old new goes = record { size = goes.size; honest = goes.honest; later = goes.later; faults = goes.faults }
+
+-- within the calls by the blocks that an honest disk has
+pub bounded : (packets : List Packet) (old mid new : Told) → Looks 6 old mid → (s : MirrorState) → (IsTrue old.honest → IsRead old.bytes s) → Goes (packets_calls s.journal.shape.block packets) mid new → IsBounded packets old new
+bounded packets old mid new looks s read goes honest =
+    let is = read honest in
+    subst (λ (reading : MirrorReading). new.calls ≤ old.calls + (6 + packets_calls (block_of reading) packets)) (sym is.reads)
+    (subst (λ (shape : Shape). new.calls ≤ old.calls + (6 + packets_calls shape.block packets)) is.shape (goes_by (packets_calls s.journal.shape.block packets) old mid new looks goes).calls)
+
+-- an opening alone is
+pub bounded_looked : (packets : List Packet) (old new : Told) → Looks 6 old new → IsBounded packets old new
+bounded_looked packets old new looks honest = let calls = looks.calls in omega (arith, calls)
 
 pub goes_looked : (old new : Told) → Looks 6 old new → GoesOn old new
 goes_looked old new looks = record { size = looks.size; honest = looks.honest; later = looks.later; faults = looks.faults }

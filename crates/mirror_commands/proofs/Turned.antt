@@ -29,7 +29,7 @@ use Rattle.voice_mirror.specs.Taking.{settled, settled_by}
 use Rattle.voice_mirror.specs.Promoting as promoting
 use Rattle.voice_mirror.specs.Promoting.{room, Refuses, JudgesPromotion, has_all, MayBeMirror, WasMirror, PromotesAs}
 use Rattle.mirror_commands.specs.declared.promoting.Refusal.{Refusal}
-use Rattle.mirror_commands.specs.declared.promoting.Refusal.TheVariants.{BadDisk, EpochSpent, JournalFull, DiskFault, InDoubt, NoMemory}
+use Rattle.mirror_commands.specs.declared.promoting.Refusal.TheVariants.{BadDisk, EpochSpent, JournalFull, DiskFault, NoMemory}
 use Rattle.mirror_commands.specs.Feeding.{IsNoMirrorAt}
 use Rattle.mirror_commands.specs.Promoting.{base_size, verdict_of, IsOfDevice, IsDecided, HasTurned, Turns, Promotes, unopened_of, refused_of}
 

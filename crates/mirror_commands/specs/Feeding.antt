@@ -8,6 +8,8 @@
 --     Tells packets text old new      the text that tells them
 --     Stays packets old new      what becomes of the disk, whatever the end is
 --     GoesOn old new      the counts of the disk behind it
+--     block_of reading      the samples of a block of a mirror
+--     IsBounded packets old new      the most device calls on an honest disk
 --     ServesFronts, IsTold      what serving keeps of a list, and what a text tells of it, between two moments of an open mirror
 use Rattle.std.specs.Prelude.{◌≡◌, ◌⊎◌, ℕ, ◌+◌, ◌≤◌, List, length, Some, IsTrue}
 use Rattle.voice_outside.specs.Disk.{Told, Now}
@@ -20,7 +22,7 @@ use Rattle.mirror_laws.specs.Standing.{mirrored_after}
 use Rattle.mirror_effects.specs.Fronts.{AreLegal, AreOutOf}
 use Rattle.voice_mirror.specs.declared.answers.Taken.{Taken}
 use Rattle.voice_mirror.specs.Shown.{MirrorState, IsRead}
-use Rattle.voice_mirror.specs.Serving.{Serves, AreHeld, HaveRisen, HasFront, IsFrontOf}
+use Rattle.voice_mirror.specs.Serving.{Serves, AreHeld, HaveRisen, HasFront, IsFrontOf, packets_calls}
 use Rattle.mirror_commands.specs.Texts.{mirror_text}
 
 -- ---- the disk
@@ -85,6 +87,15 @@ pub record GoesOn (old new : Told) : Type 0 where
   pub honest : new.honest ≡ old.honest
   pub later : old.calls ≤ new.calls
   pub faults : old.faults ≤ new.faults
+
+-- the samples of a block of the mirror that the bytes are, 0 where they are none's
+abbrev pub block_of : MirrorReading → ℕ
+block_of (MirrorReading.Bad place) = 0
+block_of (MirrorReading.Reads journal b position) = journal.shape.block
+
+-- at most six device calls that open an honest disk, and those of each packet
+abbrev pub IsBounded : List Packet → Told → Told → Type 0
+IsBounded packets old new = IsTrue old.honest → new.calls ≤ old.calls + (6 + packets_calls (block_of (mirror_reading old.bytes)) packets)
 
 -- ---- an open mirror
 

@@ -7,8 +7,9 @@ ghost use Rattle.voice_journal.specs.Opens.{IsBadAt};
 ghost use Rattle.mirror_packets.specs.Packets.{AreGood};
 ghost use Rattle.mirror_packets.specs.Shown.{packets_of};
 ghost use Rattle.mirror_readings.specs.Readings.{MirrorReading, mirror_reading};
-ghost use Rattle.mirror_commands.specs.Feeding.{GoesOn, IsNoMirrorAt, IsTold, ServesFronts, Stays, Tells};
-ghost use Rattle.voice_mirror.specs.Serving as serving;
+ghost use Rattle.mirror_commands.specs.Feeding.{GoesOn, IsBounded, IsNoMirrorAt, IsTold, ServesFronts, Stays, Tells};
+ghost use Rattle.voice_mirror.specs.Promoting.{Goes};
+ghost use Rattle.voice_mirror.specs.Serving.{packets_calls};
 
 use crate::texts::text_of;
 use mirror_effects::laws::fronts_grow;
@@ -25,7 +26,7 @@ fn told<D: Disk>(
     packets: &[Packet],
 ) -> Result<Vec<u8>, NoMemory>
     requires { AreGood (packets_of packets.now) }
-    ensures goes { serving.GoesOn (D.told mirror.old.disk) (D.told mirror.new.disk) }
+    ensures goes { Goes (packets_calls mirror.old.state.journal.shape.block (packets_of packets.now)) (D.told mirror.old.disk) (D.told mirror.new.disk) }
     ensures told { IfOk result (λ text. IsTold (packets_of packets.now) text.items (D.told mirror.old.disk) (D.told mirror.new.disk) mirror.old.state mirror.new.state) }
     ensures fronts { ServesFronts (packets_of packets.now) (D.told mirror.old.disk) (D.told mirror.new.disk) mirror.old.state mirror.new.state }
 {
@@ -33,10 +34,11 @@ fn told<D: Disk>(
     text_of(alloc, packets, &answers, mirror.position())
 }
 
-/// Opens the mirror of a disk, serves it packets in order, and tells what became of each, and the position behind them. `BadDisk` comes exactly where the disk's bytes are no mirror's, with the place of the damage, and `DiskFault` where the device failed as the disk was opened; a fault behind that is the answer to a packet. Where memory wants, the packets before it stand. The disk is handed back.
+/// Opens the mirror of a disk, serves it packets in order, and tells what became of each, and the position behind them. `BadDisk` comes exactly where the disk's bytes are no mirror's, with the place of the damage, and `DiskFault` where the device failed as the disk was opened; a fault behind that is the answer to a packet. Where memory wants, the packets before it stand. The disk is handed back. It makes at most 6 device calls, and for each packet 8 and one for each block of a voice file.
 pub fn feed<D: Disk>(alloc: Global, packets: &[Packet], disk: D) -> (Result<Vec<u8>, OpenError>, D)
     requires { AreGood (packets_of packets.now) }
     ensures goes { GoesOn (D.told disk) (D.told result.1) }
+    ensures calls { IsBounded (packets_of packets.now) (D.told disk) (D.told result.1) }
     ensures tells { IfOk result.0 (λ text. Tells (packets_of packets.now) text.items (D.told disk) (D.told result.1)) }
     ensures bad { IfErr result.0 (λ e. (place : ℕ) → e ≡ OpenError.BadDisk place → IsNoMirrorAt (D.told disk) place) }
     ensures damaged { IsTrue (D.told disk).honest → (place : ℕ) → mirror_reading (D.told disk).bytes ≡ MirrorReading.Bad place → IsErrAnd result.0 (IsBadAt place) }

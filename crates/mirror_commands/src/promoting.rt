@@ -1,7 +1,7 @@
 //! The disk of a mirror becomes a voice disk.
 
 ghost use Rattle.std.specs.Prelude.{◌≡◌};
-ghost use Rattle.mirror_commands.specs.Feeding.{GoesOn};
+ghost use Rattle.voice_mirror.specs.Promoting.{Goes};
 ghost use Rattle.mirror_commands.specs.Promoting.{Promotes, refused_of, unopened_of};
 
 use std::alloc::Global;
@@ -48,9 +48,9 @@ fn refused(e: PromoteError) -> Refusal
     }
 }
 
-/// Opens the mirror of a disk and makes it a voice disk, which has what the mirror had. What the disk's bytes decide is answered, but for faults and want of memory; where that is a refusal, the disk was only looked at.
+/// Opens the mirror of a disk and makes it a voice disk, which has what the mirror had. What the disk's bytes decide is answered, but for faults and want of memory; where that is a refusal, the disk was only looked at. It makes at most 14 device calls.
 pub fn promote<D: Disk>(alloc: Global, disk: D) -> (Result<(), Refusal>, D)
-    ensures goes { GoesOn (D.told disk) (D.told result.1) }
+    ensures goes { Goes 14 (D.told disk) (D.told result.1) }
     ensures promotes { Promotes (D.told disk) (D.told result.1) result.0 }
 {
     let mirror = match Mirror::open(alloc, disk) {

@@ -90,6 +90,11 @@ module _ (size : ℕ) (s : MirrorState) (p : Pending) (upright : IsUpright size 
     waits = sure_then;
   }
 
+-- a landing leaves the shape
+pub shape_by : (doubt : Option Doubt) (journal : JournalValue) → (journal_by doubt journal).shape ≡ journal.shape
+shape_by None journal = refl
+shape_by (Some doubt) journal = refl
+
 -- the same with the tables beside
 pub standing_landed : (size : ℕ) (s : Inside) (p : Pending) (journal' : JournalValue) → IsStanding size s → s.pending ≡ Some p → journal' ≡ journal_by s.journal.doubt s.journal
     → IsStanding size (record s { journal = journal'; parts = p.tables; beside = Behind s.parts p.change; position = s.position + 1; pending = None })

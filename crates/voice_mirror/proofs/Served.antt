@@ -1,5 +1,5 @@
 -- Packets that were served, one more each time.
-use Rattle.std.proofs.Common.{◌≡◌, inl, inr, ℕ, zero, suc, ◌+◌, ◌<◌, ◌≤◌, ◌^◌, ◌-◌, Bool, true, false, cond, List, [], ◌∷◌, ◌++◌, length, take, get_or, Option, Some, None, Result, refl, sym, ◌∙◌, ap, subst, arith}
+use Rattle.std.proofs.Common.{◌≡◌, ◌⊎◌, inl, inr, ℕ, zero, suc, ◌+◌, ◌<◌, ◌≤◌, ◌^◌, ◌-◌, Bool, true, false, cond, List, [], ◌∷◌, ◌++◌, length, take, get_or, Option, Some, None, Result, refl, sym, ◌∙◌, ap, subst, arith}
 use Rattle.std.specs.Prelude.{nat_le, nat_lt}
 use Rattle.std.proofs.lemmas.Bool.{leb-true, ltb-false}
 use Rattle.voice_outside.specs.Disk.{Told}
@@ -12,9 +12,10 @@ use Rattle.voice_mirror.specs.declared.answers.Taken.{Taken}
 use Rattle.voice_mirror.specs.declared.answers.Taken.TheVariants.{Done, Again, Early, Strange, NoRoom, JournalFull, DiskFault, InDoubt}
 use Rattle.voice_mirror.specs.Shown.{MirrorState, IsUpright}
 use Rattle.voice_units.specs.Blocks.{blocks_for}
+use Rattle.voice_units.specs.declared.shapes.Shape.{Shape}
 use Rattle.voice_blocks.specs.Holders.{open_in}
 use Rattle.mirror_effects.specs.Effects.{is_strange}
-use Rattle.voice_mirror.specs.Taking.{settled_by, settled, size_then, frame_of, need_of, left_of, if_full, if_room, body_judged, judged, AnswersBy, Becomes, Judges}
+use Rattle.voice_mirror.specs.Taking.{settled_by, settled, packet_calls, size_then, frame_of, need_of, left_of, if_full, if_room, body_judged, judged, AnswersBy, Becomes, Judges}
 use Rattle.voice_mirror.specs.Ready.{IsOfDevice}
 use Rattle.std.specs.Prelude.{IsTrue}
 use Rattle.voice_model.specs.Samples.{Tagged}
@@ -31,7 +32,7 @@ use Rattle.voice_mirror.specs.declared.inside.Inside.{Inside}
 use Rattle.voice_mirror.specs.Shown.{IsStanding, Keeps, KeepsSome, state_of}
 use Rattle.voice_mirror.specs.Taking.{TakesOr}
 use Rattle.voice_mirror.specs.Promoting.{Goes}
-use Rattle.voice_mirror.specs.Serving.{IsShown, Serves, IsTaken, AreHeld, of_device, device_answers, HaveRisen, GoesOn, HasFront}
+use Rattle.voice_mirror.specs.Serving.{IsShown, Serves, IsTaken, AreHeld, of_device, device_answers, HaveRisen, HasFront, StopsWithin, packets_calls}
 use Rattle.voice_mirror.proofs.Landed.{upright_then}
 use Rattle.voice_mirror.proofs.Growing.{some_more, front_more}
 
@@ -188,11 +189,17 @@ held_by s t (p ∷ packets) (a ∷ answers) shown is = (
   held_by is.0 t packets answers is.1 is.3,
 )
 
+-- one packet more makes its calls besides
+calls_more : (block : ℕ) (packets : List Packet) (packet : Packet) → packets_calls block (packets ++ packet ∷ []) ≡ packets_calls block packets + packet_calls block packet
+calls_more block [] packet = omega arith
+calls_more block (p ∷ packets) packet = let rest = calls_more block packets packet in omega (arith, rest)
+
 -- ---- packets so far
 
 -- what a run of packets has come to, where the disk was `old` and the mirror s
 pub record Serving (old new : Told) (s t : Inside) (packets : List Packet) (answers : List Taken) : Type 0 where
-  pub goes : GoesOn old new
+  pub goes : Goes (packets_calls s.journal.shape.block packets) old new
+  pub shape : t.journal.shape ≡ s.journal.shape
   pub standing : IsStanding new.size t
   pub shown : IsShown (state_of s)
   pub served : Serves (state_of s) packets answers (state_of t)
@@ -203,7 +210,8 @@ pub record Serving (old new : Told) (s t : Inside) (packets : List Packet) (answ
 
 pub none_served : (old : Told) (s : Inside) → IsStanding old.size s → Serving old old s s [] []
 none_served old s standing = record {
-  goes = record { size = refl; honest = refl; later = omega arith; faults = omega arith };
+  goes = record { size = refl; honest = refl; later = omega arith; calls = omega arith; faults = omega arith };
+  shape = refl;
   standing = standing;
   shown = shown_by old.size (state_of s) standing.upright;
   served = refl;
@@ -218,16 +226,19 @@ front_of_more : (effects : List (Effect Tagged)) (packets : List Packet) (packet
 front_of_more effects [] packet of = (tt, of.0)
 front_of_more effects (p ∷ packets) packet of = let rest = front_of_more effects packets packet of.1 in ((of.0, rest.0), rest.1)
 
-module _ (bodies : BodiesDo) (may : MayBeTaken) (grow : FrontsGrow) (old mid new : Told) (s m t : Inside) (packets : List Packet) (answers : List Taken) (packet : Packet) (most : ℕ)
-    (before : Serving old mid s m packets answers) (goes : Goes most mid new) (standing : IsStanding new.size t) (result : Result Taken NoMemory)
+module _ (bodies : BodiesDo) (may : MayBeTaken) (grow : FrontsGrow) (old mid new : Told) (s m t : Inside) (packets : List Packet) (answers : List Taken) (packet : Packet)
+    (before : Serving old mid s m packets answers) (goes : Goes (packet_calls m.journal.shape.block packet) mid new) (standing : IsStanding new.size t) (result : Result Taken NoMemory)
     (takes : IsTrue mid.honest → (first : Durable Tagged) (from t0 : ℕ) (taken : List Took) (doubt : Option (Effect Tagged)) → Keeps first from t0 taken doubt mid (state_of m) → TakesOr first from t0 taken doubt new (state_of t) packet result) where
-  pub goes_then : GoesOn old new
+  pub goes_then : Goes (packets_calls s.journal.shape.block (packets ++ packet ∷ [])) old new
   goes_then =
       let later = before.goes.later in
       let more = goes.later in
+      let calls = before.goes.calls in
+      let own = subst (λ (shape : Shape). new.calls ≤ mid.calls + packet_calls shape.block packet) before.shape goes.calls in
+      let sum = calls_more s.journal.shape.block packets packet in
       let faults = before.goes.faults in
       let risen = goes.faults in
-      record { size = goes.size ∙ before.goes.size; honest = goes.honest ∙ before.goes.honest; later = omega (arith, later, more); faults = omega (arith, faults, risen) }
+      record { size = goes.size ∙ before.goes.size; honest = goes.honest ∙ before.goes.honest; later = omega (arith, later, more); calls = omega (arith, calls, own, sum); faults = omega (arith, faults, risen) }
 
   honest_then : IsTrue old.honest → IsTrue mid.honest
   honest_then honest = subst (λ (x : Bool). IsTrue x) (sym before.goes.honest) honest
@@ -240,11 +251,12 @@ module _ (bodies : BodiesDo) (may : MayBeTaken) (grow : FrontsGrow) (old mid new
       let parts = front_of_more effects packets packet of in
       front_more bodies may grow start effects legal packet parts.1 mid new (state_of m) (state_of t) result (takes (honest_then honest)) first from t0 (before.fronts honest start effects first from t0 legal parts.0 has)
 
-  pub served_more : (answer : Taken) → Judges (state_of m) packet answer (state_of t) → (IsOfDevice answer → HasRisen mid.faults new.faults) → Serving old new s t (packets ++ packet ∷ []) (answers ++ answer ∷ [])
-  served_more answer judges risen =
+  pub served_more : (answer : Taken) → t.journal.shape ≡ m.journal.shape → Judges (state_of m) packet answer (state_of t) → (IsOfDevice answer → HasRisen mid.faults new.faults) → Serving old new s t (packets ++ packet ∷ []) (answers ++ answer ∷ [])
+  served_more answer shape judges risen =
       let served = serves_more (state_of s) (state_of m) (state_of t) packets answers packet answer before.served (shown_by new.size (state_of t) standing.upright) judges in
       record {
         goes = goes_then;
+        shape = shape ∙ before.shape;
         standing = standing;
         shown = before.shown;
         served = served;
@@ -287,3 +299,28 @@ front_out_of effects [] zero of = tt
 front_out_of effects [] (suc k) of = tt
 front_out_of effects (p ∷ ps) zero of = tt
 front_out_of effects (p ∷ ps) (suc k) of = (of.0, front_out_of effects ps k of.1)
+
+-- a front of a list makes no more calls than all of it
+pub front_calls : (block : ℕ) (ps : List declared.Packet) (k : ℕ) → packets_calls block (packets_of (take k ps)) ≤ packets_calls block (packets_of ps)
+front_calls block [] zero = omega arith
+front_calls block [] (suc k) = omega arith
+front_calls block (p ∷ ps) zero = omega arith
+front_calls block (p ∷ ps) (suc k) = let rest = front_calls block ps k in omega (arith, rest)
+
+-- and counts within the calls of a front are within those of all
+pub goes_within : (block : ℕ) (ps : List declared.Packet) (k : ℕ) (old new : Told) → Goes (packets_calls block (packets_of (take k ps))) old new → Goes (packets_calls block (packets_of ps)) old new
+goes_within block ps k old new goes =
+    let calls = goes.calls in
+    let all = front_calls block ps k in
+    record { size = goes.size; honest = goes.honest; later = goes.later; calls = omega (arith, calls, all); faults = goes.faults }
+
+-- so many packets of a list
+front_of : (ps : List declared.Packet) (k : ℕ) → packets_of (take k ps) ≡ take k (packets_of ps)
+front_of [] zero = refl
+front_of [] (suc k) = refl
+front_of (p ∷ ps) zero = refl
+front_of (p ∷ ps) (suc k) = ap (λ (l : List Packet). packet_of p ∷ l) (front_of ps k)
+
+-- memory was wanted behind so many
+pub stops_behind : (s last t : MirrorState) (ps : List declared.Packet) (k : ℕ) (answers : List Taken) → Serves s (packets_of (take k ps)) answers last → (t ≡ last) ⊎ (t ≡ settled last) → StopsWithin s (packets_of ps) t
+stops_behind s last t ps k answers serves stands = record { count = k; answers = answers; last = last; serves = subst (λ (l : List Packet). Serves s l answers last) (front_of ps k) serves; stands = stands }

@@ -3,10 +3,11 @@
 --     Serves s packets answers t      one answer for each, by the state that those before it left
 --     IsTaken answer, AreHeld packets answers position      a packet was taken;  the position has all that were
 --     device_answers answers, HaveRisen answers old new      how many are faults of the device;  the count of faults rose by as many at least, or stands at its last value
---     GoesOn old new      the counts of a disk after calls
+--     packets_calls block packets      the most device calls of packets
+--     StopsWithin s packets t      memory was wanted behind some of the packets
 --     HasFront start effects first from t0 disk s      the mirror has a front of a list of changes
 --     IsFrontOf start effects least image      the image is that of a mirror with a front of at least so many changes
-use Rattle.std.specs.Prelude.{◌≡◌, ◌⊎◌, ℕ, ◌+◌, ◌-◌, ◌^◌, ◌<◌, ◌≤◌, List, [], ◌∷◌, length, Option, Some}
+use Rattle.std.specs.Prelude.{◌≡◌, ◌⊎◌, ℕ, ◌+◌, ◌-◌, ◌^◌, ◌<◌, ◌≤◌, List, [], ◌∷◌, length, take, Option, Some}
 use Rattle.voice_outside.specs.Disk.{Told}
 use Rattle.voice_model.specs.Samples.{Tagged}
 use Rattle.voice_model.specs.State.{Durable, Effect}
@@ -18,7 +19,7 @@ use Rattle.mirror_effects.specs.Fronts.{IsFront}
 use Rattle.voice_mirror.specs.declared.answers.Taken.{Taken}
 use Rattle.voice_mirror.specs.declared.answers.Taken.TheVariants.{Done, Again, Early, Strange, NoRoom, JournalFull, DiskFault, InDoubt}
 use Rattle.voice_mirror.specs.Shown.{MirrorState, Keeps}
-use Rattle.voice_mirror.specs.Taking.{settled, Judges}
+use Rattle.voice_mirror.specs.Taking.{settled, packet_calls, Judges}
 
 -- the tables show what there is once what is in doubt has landed, of the journal's shape
 abbrev pub IsShown : MirrorState → Type 0
@@ -60,12 +61,18 @@ device_answers (answer ∷ answers) = of_device answer + device_answers answers
 abbrev pub HaveRisen : List Taken → ℕ → ℕ → Type 0
 HaveRisen answers old new = new < 2 ^ 64 - 1 → old + device_answers answers ≤ new
 
--- the counts of a disk after calls
-pub record GoesOn (old new : Told) : Type 0 where
-  pub size : new.size ≡ old.size
-  pub honest : new.honest ≡ old.honest
-  pub later : old.calls ≤ new.calls
-  pub faults : old.faults ≤ new.faults
+-- the most device calls of packets
+abbrev pub packets_calls : ℕ → List Packet → ℕ
+packets_calls block [] = 0
+packets_calls block (packet ∷ packets) = packet_calls block packet + packets_calls block packets
+
+-- memory was wanted behind some of the packets: those were taken, and besides at most what was in doubt has landed
+pub record StopsWithin (s : MirrorState) (packets : List Packet) (t : MirrorState) : Type 0 where
+  pub count : ℕ
+  pub answers : List Taken
+  pub last : MirrorState
+  pub serves : Serves s (take count packets) answers last
+  pub stands : (t ≡ last) ⊎ (t ≡ settled last)
 
 -- what the mirror has is what the first changes of a list make of `start`, and the change in doubt is the next one; of these it had those up to a position at t0, which made `first`
 pub record HasFront (start : Durable Tagged) (effects : List (Effect Tagged)) (first : Durable Tagged) (from t0 : ℕ) (disk : Told) (s : MirrorState) : Type 0 where

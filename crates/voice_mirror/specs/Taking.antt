@@ -75,6 +75,10 @@ abbrev pub body_blocks : ℕ → Body → ℕ
 body_blocks block (Body.Voice id samples) = blocks_for block (length samples)
 body_blocks block (Body.Other change) = 0
 
+-- the most device calls of a packet: two that land what is in doubt, one for each block of a voice file, and six that put the change
+abbrev pub packet_calls : ℕ → Packet → ℕ
+packet_calls block packet = body_blocks block packet.body + 8
+
 -- as a record: with its gate, its length and its number
 abbrev pub frame_of : ℕ → Body → ℕ
 frame_of block body = 13 + change_size block body

@@ -92,6 +92,7 @@ pub(crate) fn commit<D: Disk>(disk: &mut D, inside: &mut Inside, number: u64, re
     ensures becomes { Becomes (state_of inside.old) result (state_of inside.new) }
     ensures fault { IsOfDevice result → HasRisen (D.told disk.old).faults (D.told disk.new).faults }
     ensures alloc { inside.new.alloc ≡ inside.old.alloc }
+    ensures shape { inside.new.journal.shape ≡ inside.old.journal.shape }
     ensures commits { IsTrue (D.told disk.old).honest → (first : Durable Tagged) (from t0 : ℕ) (taken : List Took) (effect : Effect Tagged) → (k : Keeps first from t0 taken None (D.told disk.old) (state_of inside.old))
         → recovered (D.told disk.old).bytes (acted k.now ready.change) ≡ changed 2 (kept_after first (effects_of taken)) effect
         → Commits first from t0 taken (D.told disk.new) (state_of inside.new) effect result }

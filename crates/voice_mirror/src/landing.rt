@@ -54,6 +54,7 @@ pub(crate) fn settle<D: Disk>(disk: &mut D, inside: &mut Inside) -> Result<(), F
     ensures made { MakesAtMost 2 (D.told disk.old) (D.told disk.new) result }
     ensures standing { IsStanding (D.told disk.new).size inside.new }
     ensures alloc { inside.new.alloc ≡ inside.old.alloc }
+    ensures shape { inside.new.journal.shape ≡ inside.old.journal.shape }
     ensures quiet { inside.old.pending ≡ None → (disk.new ≡ disk.old) × (inside.new ≡ inside.old) × (IsOk result) }
     ensures ok { OnOk result (state_of inside.new ≡ settled (state_of inside.old)) }
     ensures sure { OnOk result (inside.new.journal.doubt ≡ None) }

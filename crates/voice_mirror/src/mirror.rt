@@ -19,9 +19,9 @@ ghost use Rattle.mirror_laws.specs.Standing.{Took};
 ghost use Rattle.mirror_tables.specs.Numbered.{numbered_base_of, plain_size};
 ghost use Rattle.mirror_effects.specs.Fronts.{AreLegal, AreOutOf};
 ghost use Rattle.voice_mirror.specs.Shown.{IsOpened, IsRead, Keeps, KeepsSome};
-ghost use Rattle.voice_mirror.specs.Taking.{settled, body_blocks, kept_then, size_then, Judges, TakesOr};
+ghost use Rattle.voice_mirror.specs.Taking.{settled, packet_calls, kept_then, size_then, Judges, TakesOr};
 ghost use Rattle.voice_mirror.specs.Ready.{IsPut, IsOfDevice};
-ghost use Rattle.voice_mirror.specs.Serving.{Serves, AreHeld, GoesOn, HaveRisen, HasFront};
+ghost use Rattle.voice_mirror.specs.Serving.{Serves, AreHeld, HaveRisen, HasFront, StopsWithin, packets_calls};
 ghost use Rattle.voice_mirror.specs.Promoting.{Goes, JudgesPromotion, PromotesAs};
 ghost use Rattle.voice_mirror.specs.Promoting as promoting;
 
@@ -92,8 +92,9 @@ impl<D: Disk> Mirror<D> {
     /// Takes a packet. What is in doubt lands first; where that fails the answer is DiskFault. Then the first of these that holds is the answer: Again, Early, Strange, NoRoom, JournalFull; and else the change goes to the disk. After want of memory nothing of the packet is done or written. It makes at most 8 device calls, and one for each block of a voice file.
     pub fn take(&mut self, packet: &Packet) -> Result<Taken, NoMemory>
         requires { IsGoodPacket (packet_of packet.now) }
-        ensures goes { Goes (body_blocks self.old.state.journal.shape.block (packet_of packet.now).body + 8) (D.told self.old.disk) (D.told self.new.disk) }
+        ensures goes { Goes (packet_calls self.old.state.journal.shape.block (packet_of packet.now)) (D.told self.old.disk) (D.told self.new.disk) }
         ensures origin { self.new.origin ≡ self.old.origin }
+        ensures shape { self.new.state.journal.shape ≡ self.old.state.journal.shape }
         ensures judges { IfOk result (λ answer. Judges self.old.state (packet_of packet.now) answer self.new.state) }
         // The bytes that the base needs then are those of the numbered base of any tables that show what is kept then.
         ensures need { (b x : Rebuilt) (parts : Parts) (n : ℕ) → Rebuilds parts x → x.kept ≡ kept_then b (packet_of packet.now).body → framed_size (numbered_base_of n x) ≡ size_then b (packet_of packet.now).body }
@@ -108,12 +109,14 @@ impl<D: Disk> Mirror<D> {
         take(&mut self.disk, &mut self.inside, packet)
     }
 
-    /// Takes packets in order, with one answer for each. Where memory wants, the packets before it stand.
+    /// Takes packets in order, with one answer for each. Where memory wants, the packets before it stand. It makes at most the device calls of each.
     pub fn serve(&mut self, packets: &[Packet]) -> Result<Vec<Taken>, NoMemory>
         requires { AreGood (packets_of packets.now) }
-        ensures goes { GoesOn (D.told self.old.disk) (D.told self.new.disk) }
+        ensures goes { Goes (packets_calls self.old.state.journal.shape.block (packets_of packets.now)) (D.told self.old.disk) (D.told self.new.disk) }
         ensures origin { self.new.origin ≡ self.old.origin }
+        ensures shape { self.new.state.journal.shape ≡ self.old.state.journal.shape }
         ensures served { IfOk result (λ answers. Serves self.old.state (packets_of packets.now) answers.items self.new.state) }
+        ensures memory { OnErr result (StopsWithin self.old.state (packets_of packets.now) self.new.state) }
         // What was taken, now or before, the position has.
         ensures held { IfOk result (λ answers. AreHeld (packets_of packets.now) answers.items self.new.state.position) }
         ensures faults { IfOk result (λ answers. HaveRisen answers.items (D.told self.old.disk).faults (D.told self.new.disk).faults) }

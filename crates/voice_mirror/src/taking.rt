@@ -21,7 +21,7 @@ ghost use Rattle.mirror_packets.specs.Shown.{body_of, packet_of};
 ghost use Rattle.mirror_laws.specs.Standing.{Took};
 ghost use Rattle.mirror_tables.specs.Beside.{IsBeside, AreFree};
 ghost use Rattle.voice_mirror.specs.Shown.{Keeps, IsStanding, state_of};
-ghost use Rattle.voice_mirror.specs.Taking.{settled, body_blocks, Becomes, Judges, Answers, AnswersBody, TakesOr, Takes};
+ghost use Rattle.voice_mirror.specs.Taking.{settled, body_blocks, packet_calls, Becomes, Judges, Answers, AnswersBody, TakesOr, Takes};
 ghost use Rattle.voice_mirror.specs.Ready.{MayCommit, IsPut, IsOfDevice};
 ghost use Rattle.voice_mirror.specs.Promoting.{Goes};
 
@@ -143,6 +143,7 @@ fn write_and_commit<D: Disk>(
     ensures becomes { Becomes (state_of inside.old) result (state_of inside.new) }
     ensures fault { IsOfDevice result → HasRisen (D.told disk.old).faults (D.told disk.new).faults }
     ensures alloc { inside.new.alloc ≡ inside.old.alloc }
+    ensures shape { inside.new.journal.shape ≡ inside.old.journal.shape }
     ensures takes { IsTrue (D.told disk.old).honest → (first : Durable Tagged) (from t0 : ℕ) (taken : List Took) → Keeps first from t0 taken None (D.told disk.old) (state_of inside.old)
         → Takes first from t0 taken (D.told disk.new) (state_of inside.new) number (spec.Body.Voice voice.entry.id voice.entry.samples.now) result }
 {
@@ -187,6 +188,7 @@ fn place_voice<D: Disk>(
     ensures refused { IfOk result (λ answer. ¬ IsPut answer → disk.new ≡ disk.old) }
     ensures memory { OnErr result ((state_of inside.new ≡ state_of inside.old) × (disk.new ≡ disk.old)) }
     ensures alloc { inside.new.alloc ≡ inside.old.alloc }
+    ensures shape { inside.new.journal.shape ≡ inside.old.journal.shape }
     ensures takes { IsTrue (D.told disk.old).honest → (first : Durable Tagged) (from t0 : ℕ) (taken : List Took) → Keeps first from t0 taken None (D.told disk.old) (state_of inside.old)
         → IfOk result (λ answer. Takes first from t0 taken (D.told disk.new) (state_of inside.new) number (spec.Body.Voice voice.entry.id voice.entry.samples.now) answer) }
 {
@@ -218,6 +220,7 @@ fn take_voice<D: Disk>(
     ensures refused { IfOk result (λ answer. ¬ IsPut answer → disk.new ≡ disk.old) }
     ensures memory { OnErr result ((state_of inside.new ≡ state_of inside.old) × (disk.new ≡ disk.old)) }
     ensures alloc { inside.new.alloc ≡ inside.old.alloc }
+    ensures shape { inside.new.journal.shape ≡ inside.old.journal.shape }
     ensures takes { IsTrue (D.told disk.old).honest → (first : Durable Tagged) (from t0 : ℕ) (taken : List Took) → Keeps first from t0 taken None (D.told disk.old) (state_of inside.old)
         → IfOk result (λ answer. Takes first from t0 taken (D.told disk.new) (state_of inside.new) number (spec.Body.Voice id samples.now) answer) }
 {
@@ -261,6 +264,7 @@ fn take_other<D: Disk>(
     ensures refused { IfOk result (λ answer. ¬ IsPut answer → disk.new ≡ disk.old) }
     ensures memory { OnErr result ((state_of inside.new ≡ state_of inside.old) × (disk.new ≡ disk.old)) }
     ensures alloc { inside.new.alloc ≡ inside.old.alloc }
+    ensures shape { inside.new.journal.shape ≡ inside.old.journal.shape }
     ensures takes { IsTrue (D.told disk.old).honest → (first : Durable Tagged) (from t0 : ℕ) (taken : List Took) → Keeps first from t0 taken None (D.told disk.old) (state_of inside.old)
         → IfOk result (λ answer. Takes first from t0 taken (D.told disk.new) (state_of inside.new) number (spec.Body.Other change.now) answer) }
 {
@@ -293,6 +297,7 @@ fn take_body<D: Disk>(
     ensures refused { IfOk result (λ answer. ¬ IsPut answer → disk.new ≡ disk.old) }
     ensures memory { OnErr result ((state_of inside.new ≡ state_of inside.old) × (disk.new ≡ disk.old)) }
     ensures alloc { inside.new.alloc ≡ inside.old.alloc }
+    ensures shape { inside.new.journal.shape ≡ inside.old.journal.shape }
     ensures takes { IsTrue (D.told disk.old).honest → (first : Durable Tagged) (from t0 : ℕ) (taken : List Took) → Keeps first from t0 taken None (D.told disk.old) (state_of inside.old)
         → IfOk result (λ answer. Takes first from t0 taken (D.told disk.new) (state_of inside.new) number (body_of body.now) answer) }
 {
@@ -314,6 +319,7 @@ fn take_sure<D: Disk>(disk: &mut D, inside: &mut Inside, packet: &Packet) -> Res
     ensures refused { IfOk result (λ answer. ¬ IsPut answer → disk.new ≡ disk.old) }
     ensures memory { OnErr result ((state_of inside.new ≡ state_of inside.old) × (disk.new ≡ disk.old)) }
     ensures alloc { inside.new.alloc ≡ inside.old.alloc }
+    ensures shape { inside.new.journal.shape ≡ inside.old.journal.shape }
     ensures takes { IsTrue (D.told disk.old).honest → (first : Durable Tagged) (from t0 : ℕ) (taken : List Took) → Keeps first from t0 taken None (D.told disk.old) (state_of inside.old)
         → IfOk result (λ answer. Takes first from t0 taken (D.told disk.new) (state_of inside.new) packet.now.number (packet_of packet.now).body answer) }
 {
@@ -334,7 +340,7 @@ pub(crate) fn take<D: Disk>(
 ) -> Result<Taken, NoMemory>
     requires standing { IsStanding (D.told disk.old).size inside.old }
     requires good { IsGoodPacket (packet_of packet.now) }
-    ensures goes { Goes (body_blocks inside.old.journal.shape.block (packet_of packet.now).body + 8) (D.told disk.old) (D.told disk.new) }
+    ensures goes { Goes (packet_calls inside.old.journal.shape.block (packet_of packet.now)) (D.told disk.old) (D.told disk.new) }
     ensures standing { IsStanding (D.told disk.new).size inside.new }
     ensures judges { IfOk result (λ answer. Judges (state_of inside.old) (packet_of packet.now) answer (state_of inside.new)) }
     ensures fault { IfOk result (λ answer. IsOfDevice answer → HasRisen (D.told disk.old).faults (D.told disk.new).faults) }
@@ -342,6 +348,7 @@ pub(crate) fn take<D: Disk>(
     ensures memory { OnErr result (state_of inside.new ≡ settled (state_of inside.old)) }
     ensures unwritten { OnErr result (inside.old.pending ≡ None → disk.new ≡ disk.old) }
     ensures alloc { inside.new.alloc ≡ inside.old.alloc }
+    ensures shape { inside.new.journal.shape ≡ inside.old.journal.shape }
     ensures takes { IsTrue (D.told disk.old).honest → (first : Durable Tagged) (from t0 : ℕ) (taken : List Took) (doubt : Option (Effect Tagged)) → Keeps first from t0 taken doubt (D.told disk.old) (state_of inside.old)
         → TakesOr first from t0 taken doubt (D.told disk.new) (state_of inside.new) (packet_of packet.now) result }
 {

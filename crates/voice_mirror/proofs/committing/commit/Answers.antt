@@ -1,4 +1,4 @@
-use Rattle.std.proofs.Common.{ℕ, Bool, inl, inr, refl, sym, ap, subst}
+use Rattle.std.proofs.Common.{◌≡◌, ℕ, Bool, inl, inr, refl, sym, ap, subst}
 use Rattle.std.specs.Prelude.{IsTrue}
 use Rattle.voice_outside.specs.Counters.{HasRisen}
 use Rattle.voice_model.specs.Replay.{acted}
@@ -40,6 +40,12 @@ pub returns-clause-becomes : goal.returns-clause-becomes
 returns-clause-becomes g c =
     by_put c.args.inside.now c.taken_by.new.inside _ _ _ c.taken_by.result c.put-put.result c.taken_by.ensures.ok c.taken_by.ensures.before c.taken_by.ensures.doubt (λ (a : Taken) (i : Inside). Becomes (state_of c.args.inside.now) a (state_of i))
     (on_ok c.put-put.result (refl, c.requires.may.sure)) (λ e. (refl, refl, c.requires.may.sure)) (λ e. (refl, refl, refl))
+
+pub returns-clause-shape : goal.returns-clause-shape
+returns-clause-shape g c =
+    let kept = c.put-put.ensures.shape in
+    by_put c.args.inside.now c.taken_by.new.inside _ _ _ c.taken_by.result c.put-put.result c.taken_by.ensures.ok c.taken_by.ensures.before c.taken_by.ensures.doubt (λ (a : Taken) (i : Inside). i.journal.shape ≡ c.args.inside.now.journal.shape)
+    (on_ok c.put-put.result kept) (λ e. kept) (λ e. kept)
 
 pub returns-clause-fault : goal.returns-clause-fault
 returns-clause-fault g c =

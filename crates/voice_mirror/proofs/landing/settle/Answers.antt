@@ -6,7 +6,7 @@ use Rattle.crash_laws.specs.Standing.{IsLater}
 use Rattle.voice_mirror.specs.declared.inside.Inside.{Inside}
 use Rattle.voice_mirror.specs.Shown.{MirrorState, IsStanding, Keeps, state_of}
 use Rattle.voice_mirror.specs.Taking.{with_landed}
-use Rattle.voice_mirror.proofs.Landed.{quiet_keeps, none_there, some_there, stuck_keeps, landed_keeps, standing_landed, by_landing, sure_then, unsure}
+use Rattle.voice_mirror.proofs.Landed.{quiet_keeps, none_there, some_there, stuck_keeps, landed_keeps, standing_landed, by_landing, shape_by, sure_then, unsure}
 use Rattle.voice_mirror.proofs.Put.{on_err}
 use Rattle.voice_mirror.proofs.landing.settle.Goals as goal
 
@@ -52,6 +52,15 @@ returns-clause-sure g c =
     let p = some_there s.pending (c.is_none.ensures ∙ ap not c.if-is_none.false) in
     let same = by_landing s.journal.doubt s.journal c.land.new.self (unsure size (state_of s) p.0 standing.upright p.1) c.in_ok-land.ensures.ok_state in
     ap (λ (i : Inside). i.journal.doubt) (c.take_pending.ensures.some p.0 p.1) ∙ ap (λ (j : JournalValue). j.doubt) same ∙ sure_then size (state_of s) p.0 standing.upright p.1
+
+pub returns-clause-shape : goal.returns-clause-shape
+returns-clause-shape g c =
+    let s = c.args.inside.now in
+    let size = (g.D.Disk.told c.args.disk.now).size in
+    let standing = c.requires in
+    let p = some_there s.pending (c.is_none.ensures ∙ ap not c.if-is_none.false) in
+    let same = by_landing s.journal.doubt s.journal c.land.new.self (unsure size (state_of s) p.0 standing.upright p.1) c.in_ok-land.ensures.ok_state in
+    ap (λ (i : Inside). i.journal.shape) (c.take_pending.ensures.some p.0 p.1) ∙ ap (λ (j : JournalValue). j.shape) same ∙ shape_by s.journal.doubt s.journal
 
 pub returns-clause-kept : goal.returns-clause-kept
 returns-clause-kept g c =

@@ -1,11 +1,12 @@
 use Rattle.std.proofs.Common.{◌≡◌, ℕ, List, IsTrue, refl}
-use Rattle.std.specs.Prelude.{IfOk}
+use Rattle.std.specs.Prelude.{IfOk, OnErr}
 use Rattle.voice_model.specs.Samples.{Tagged}
 use Rattle.voice_model.specs.State.{Durable, Effect}
 use Rattle.mirror_packets.specs.Shown.{packets_of}
 use Rattle.mirror_effects.specs.Fronts.{AreLegal, AreOutOf}
 use Rattle.voice_mirror.specs.Shown.{KeepsSome, state_of}
-use Rattle.voice_mirror.specs.Serving.{Serves, GoesOn, HaveRisen, HasFront}
+use Rattle.voice_mirror.specs.Promoting.{Goes}
+use Rattle.voice_mirror.specs.Serving.{Serves, HaveRisen, HasFront, StopsWithin, packets_calls}
 use Rattle.voice_mirror.proofs.Opened.{whole_then}
 use Rattle.voice_mirror.proofs.Promoted.{by_view}
 use Rattle.voice_mirror.proofs.mirror.Mirror.serve.Goals as goal
@@ -26,13 +27,19 @@ returns-clause-fronts g c =
     → HasFront start effects first from t0 (g.D.Disk.told v.disk) v.state → HasFront start effects first from t0 (g.D.Disk.told c.serve.new.disk) (state_of c.serve.new.inside)) c.serve.ensures.fronts
 
 pub returns-clause-goes : goal.returns-clause-goes
-returns-clause-goes g c = by_view c.self.view_is (λ v. GoesOn (g.D.Disk.told v.disk) (g.D.Disk.told c.serve.new.disk)) c.serve.ensures.goes
+returns-clause-goes g c = by_view c.self.view_is (λ v. Goes (packets_calls v.state.journal.shape.block (packets_of c.args.packets.now)) (g.D.Disk.told v.disk) (g.D.Disk.told c.serve.new.disk)) c.serve.ensures.goes
+
+pub returns-clause-shape : goal.returns-clause-shape
+returns-clause-shape g c = by_view c.self.view_is (λ v. c.serve.new.inside.journal.shape ≡ v.state.journal.shape) c.serve.ensures.shape
 
 pub returns-clause-origin : goal.returns-clause-origin
 returns-clause-origin g c = by_view c.self.view_is (λ v. c.self.inside.origin.value ≡ v.origin) refl
 
 pub returns-clause-served : goal.returns-clause-served
 returns-clause-served g c = by_view c.self.view_is (λ v. IfOk c.serve.result (λ answers. Serves v.state (packets_of c.args.packets.now) answers.items (state_of c.serve.new.inside))) c.serve.ensures.served
+
+pub returns-clause-memory : goal.returns-clause-memory
+returns-clause-memory g c = by_view c.self.view_is (λ v. OnErr c.serve.result (StopsWithin v.state (packets_of c.args.packets.now) (state_of c.serve.new.inside))) c.serve.ensures.memory
 
 pub returns-clause-faults : goal.returns-clause-faults
 returns-clause-faults g c = by_view c.self.view_is (λ v. IfOk c.serve.result (λ answers. HaveRisen answers.items (g.D.Disk.told v.disk).faults (g.D.Disk.told c.serve.new.disk).faults)) c.serve.ensures.faults

@@ -1,4 +1,4 @@
-use Rattle.std.proofs.Common.{◌≡◌, ◌+◌, ℕ, List, Option, None, IsTrue, refl}
+use Rattle.std.proofs.Common.{◌≡◌, ℕ, List, Option, None, IsTrue, refl}
 use Rattle.std.specs.Prelude.{IfOk, OnErr}
 use Rattle.voice_outside.specs.Counters.{HasRisen}
 use Rattle.voice_model.specs.Samples.{Tagged}
@@ -6,7 +6,7 @@ use Rattle.voice_model.specs.State.{Durable, Effect}
 use Rattle.mirror_laws.specs.Standing.{Took}
 use Rattle.mirror_packets.specs.Shown.{packet_of}
 use Rattle.voice_mirror.specs.Shown.{Keeps, state_of}
-use Rattle.voice_mirror.specs.Taking.{settled, body_blocks, Judges, TakesOr}
+use Rattle.voice_mirror.specs.Taking.{settled, packet_calls, Judges, TakesOr}
 use Rattle.voice_mirror.specs.Ready.{IsPut, IsOfDevice}
 use Rattle.voice_mirror.specs.Promoting.{Goes}
 use Rattle.voice_mirror.proofs.Growing.{some_more}
@@ -27,10 +27,13 @@ invariant_of-self g c =
 
 pub returns-clause-goes : goal.returns-clause-goes
 returns-clause-goes g c =
-    by_view c.self.view_is (λ v. Goes (body_blocks v.state.journal.shape.block (packet_of c.args.packet.now).body + 8) (g.D.Disk.told v.disk) (g.D.Disk.told c.take.new.disk)) c.take.ensures.goes
+    by_view c.self.view_is (λ v. Goes (packet_calls v.state.journal.shape.block (packet_of c.args.packet.now)) (g.D.Disk.told v.disk) (g.D.Disk.told c.take.new.disk)) c.take.ensures.goes
 
 pub returns-clause-origin : goal.returns-clause-origin
 returns-clause-origin g c = by_view c.self.view_is (λ v. c.self.inside.origin.value ≡ v.origin) refl
+
+pub returns-clause-shape : goal.returns-clause-shape
+returns-clause-shape g c = by_view c.self.view_is (λ v. c.take.new.inside.journal.shape ≡ v.state.journal.shape) c.take.ensures.shape
 
 pub returns-clause-judges : goal.returns-clause-judges
 returns-clause-judges g c = by_view c.self.view_is (λ v. IfOk c.take.result (λ answer. Judges v.state (packet_of c.args.packet.now) answer (state_of c.take.new.inside))) c.take.ensures.judges
