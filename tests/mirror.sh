@@ -149,21 +149,6 @@ packet 6 taken
 position 6
 ' ''
 
-# Killed at ten moments, each of which leaves a mirror with what it had, or with more.
-whole=yes
-last=6
-for k in $(seq 1 10); do
-    (cd "$second" && exec "$top/voice" mirror all.pk) >"$work/.out" 2>"$work/.err" &
-    pid=$!
-    sleep "0.00$((k % 10))"
-    kill -9 "$pid" 2>/dev/null || true
-    wait "$pid" 2>/dev/null || true
-    on "$second" mirror none.pk
-    now=$(sed -n 's/^position //p' "$work/.out")
-    [ "$status" = 0 ] && [ "${now:-0}" -ge "$last" ] || whole="kill $k: status $status, position $now after $last"
-    last=${now:-$last}
-done
-expect "ten kills ($whole)" [ "$whole" = yes ]
 on "$second" mirror all.pk
 expect 'all are taken then' sh -c "[ '$status' = 0 ] && [ \"\$(tail -n 1 '$work/.out')\" = 'position 9' ] && ! grep -qv -e taken -e again -e position '$work/.out'"
 
@@ -207,6 +192,38 @@ ends 'and is promoted' 0 '' ''
 told "$second" >"$work/.second"
 told "$third" >"$work/.third"
 expect 'with what the second one has' cmp "$work/.second" "$work/.third"
+
+# Killed at twenty moments while it takes four hundred packets, which switch over and over: each leaves a mirror with what it had, or with more.
+fourth=$work/fourth
+fifth=$work/fifth
+mkdir "$fourth" "$fifth"
+disk "$fourth" 65536 --block 8 --blocks 8 --area 16384
+disk "$fifth" 4096 --block 8 --blocks 8 --area 1024
+seq 1 400 | sed 's/.*/1 advance &/' >"$fourth/many.vs"
+on "$fourth" packets many.vs many.pk 1
+expect 'four hundred packets' [ "$(tail -n 1 "$work/.out")" = 'next 401' ]
+cp "$fourth/many.pk" "$fifth"
+: >"$fifth/none.pk"
+whole=yes
+last=0
+for k in $(seq 1 20); do
+    (cd "$fifth" && exec "$top/voice" mirror many.pk) >/dev/null 2>&1 &
+    pid=$!
+    sleep "0.0$((10 + k * 4))"
+    kill -9 "$pid" 2>/dev/null || true
+    wait "$pid" 2>/dev/null || true
+    on "$fifth" mirror none.pk
+    now=$(sed -n 's/^position //p' "$work/.out")
+    [ "$status" = 0 ] && [ "${now:-0}" -ge "$last" ] || whole="kill $k: status $status, position $now after $last"
+    last=${now:-$last}
+done
+expect "twenty kills ($whole)" [ "$whole" = yes ]
+on "$fifth" mirror many.pk
+expect 'all are taken then' [ "$status $(tail -n 1 "$work/.out")" = '0 position 400' ]
+on "$fifth" promote
+told "$fourth" >"$work/.fourth"
+told "$fifth" >"$work/.fifth"
+expect 'and the moment is the last one' cmp "$work/.fourth" "$work/.fifth"
 
 # A disk too small, a packet that can't follow, a folder in place of the disk, and words in no form.
 disk "$third" 1104 --block 8 --blocks 2 --area 512
