@@ -1,7 +1,6 @@
 -- A run of a generated script keeps its promise.
-use Rattle.std.proofs.Common.{◌≡◌, ℕ, ◌+◌, ◌%◌, ◌^◌, ◌⊎◌, inl, inr, Bool, false, List, [], ◌∷◌, ◌++◌, length, take, Option, Some, None, refl, sym, ap, subst, ◌∙◌}
-use Rattle.std.specs.Prelude.{IfSome, IsTrue, count_by}
-use Rattle.voice_outside.specs.Counters.{HasRisen}
+use Rattle.std.proofs.Common.{◌≡◌, ℕ, ◌⊎◌, inl, inr, false, List, [], length, Option, refl, ap, subst, ◌∙◌}
+use Rattle.std.specs.Prelude.{IsTrue, count_by}
 use Rattle.voice_outside.specs.Disk.{Told}
 use Rattle.voice_outside.specs.Files.{Files}
 use Rattle.voice_model.specs.declared.calls.Entry.{Entry}
@@ -13,14 +12,14 @@ use Rattle.voice_store.specs.Stood.{is_fault}
 use Rattle.script_lang.specs.Shown.{Reading}
 use Rattle.made_scripts.specs.Laws.{IsMade}
 use Rattle.voice_main.specs.declared.status.Status.{Status}
-use Rattle.voice_main.specs.declared.status.Status.TheVariants.{Done, Usage, BadShape, BadScript, NoFile, ShelfFault, SinkFault, BadDisk, DiskFault, NoMemory, BadAu, BadIndex, BadNote, TooManyKeys}
+use Rattle.voice_main.specs.declared.status.Status.TheVariants.{Done, ShelfFault, SinkFault, BadDisk, DiskFault, NoMemory}
 use Rattle.voice_main.specs.Outside.{Outside, outside, IsUnchanged, SinkFaulted, DiskFaulted}
 use Rattle.voice_main.specs.Ran.{Performed, Begun}
 use Rattle.voice_main.specs.RunPromise.{IsUnopened, NoFaults, IsRead}
 use Rattle.voice_main.specs.AuditPromise.{AuditExact}
 use Rattle.voice_main.specs.Statuses.{Opens, Prints, Performs, IsEarly}
-use Rattle.voice_main.specs.MadeRuns.{counted_line, made_line, IsCounted, IsMadeRun, Gains, GainsPart, ToldSo, IsTold}
-use Rattle.voice_main.specs.MakePromise.{made_tapes, MakeTold, MakeBegan, MakeComes, MakeComplete, MakePromise}
+use Rattle.voice_main.specs.MadeRuns.{counted_line, made_line, IsCounted, Gains, GainsPart, ToldSo, IsTold}
+use Rattle.voice_main.specs.MakePromise.{made_tapes, MakeTold, MakeBegan, MakeComes, MakePromise}
 use Rattle.voice_main.proofs.Exact.{one_place, read_not_bad, opened_not_bad, no_faults_at}
 
 -- ---- the line
@@ -155,5 +154,5 @@ late_made sink old new status which early = which
 -- the same of tapes that are the same
 pub so_far_by : (old new : Told) (history : List Entry) (script : Reading) (tapes other : List (List ℕ)) → tapes ≡ other → ((history ≡ []) × IsUnchanged old new) ⊎ ((k : ℕ) × Performed tapes (Begun false tapes script k history) old new history)
     → ((history ≡ []) × IsUnchanged old new) ⊎ ((k : ℕ) × Performed other (Begun false other script k history) old new history)
-so_far_by old new history script tapes other same so_far =
+so_far_by old new history script _ other same so_far =
     subst (λ (t : List (List ℕ)). ((history ≡ []) × IsUnchanged old new) ⊎ ((k : ℕ) × Performed t (Begun false t script k history) old new history)) same so_far

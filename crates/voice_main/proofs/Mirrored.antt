@@ -16,7 +16,7 @@ use Rattle.mirror_packets.specs.Shown.{IsBad}
 use Rattle.mirror_packets.specs.declared.errors.PacketError.{PacketError}
 use Rattle.mirror_packets.specs.declared.errors.PacketError.TheVariants as refused
 use Rattle.mirror_readings.specs.Readings.{MirrorReading, mirror_reading, mirrored_by}
-use Rattle.mirror_commands.specs.Feeding.{IsNoMirrorAt, IsOfMirror, KeepsFronts, Tells, Stays}
+use Rattle.mirror_commands.specs.Feeding.{IsNoMirrorAt, IsOfMirror, KeepsFronts, Tells, Stays, IsBounded}
 use Rattle.voice_main.specs.declared.load.LoadError.{LoadError}
 use Rattle.voice_main.specs.declared.load.LoadError.TheVariants as load
 use Rattle.voice_main.specs.declared.status.Status.{Status}
@@ -25,7 +25,7 @@ use Rattle.voice_main.specs.Load.{LoadIs}
 use Rattle.voice_main.specs.Outside.{Outside, ShelfFaulted, SinkFaulted, DiskFaulted}
 use Rattle.voice_main.specs.RunPromise.{IsOr}
 use Rattle.voice_main.specs.Statuses.{Prints, IsEarly, IsSilent, load_status_of, packets_status_of, open_status_of}
-use Rattle.voice_main.specs.MirrorPromise.{HasPackets, HaveSome, HasBadPackets, Gains, GainsPart, FedStatus, TellsSo, FedText, Fed, MirrorTold, MirrorKeeps, MirrorComes, MirrorExact, MirrorComplete, MirrorPromise}
+use Rattle.voice_main.specs.MirrorPromise.{HasPackets, HaveSome, HasBadPackets, Gains, GainsPart, FedStatus, TellsSo, FedText, Fed, MirrorTold, MirrorKeeps, MirrorCalls, MirrorComes, MirrorExact, MirrorComplete, MirrorPromise}
 
 -- ---- small facts
 
@@ -166,7 +166,7 @@ fed_no_shelf packets old new status fed = fed_cases old new (λ s. s ≡ ShelfFa
 
 module _ (file : List ℕ) (old new : Outside) (kept : new.files ≡ old.files) where
   -- the packets were fed
-  module _ (bytes : List ℕ) (packets : List Packet) (found : IfSome old.files (λ files. get files file ≡ Some bytes)) (spelled : AreSpelled bytes packets) (read : reading_of bytes ≡ packing.Reading.Packets packets) where
+  module _ (bytes : List ℕ) (packets : List Packet) (found : IfSome old.files (λ files. get files file ≡ Some bytes)) (spelled : AreSpelled bytes packets) (read : reading_of bytes ≡ packing.Reading.Packets packets) (bounded : IsBounded packets old.disk new.disk) where
     bytes_at : (files : Files) → old.files ≡ Some files → get files file ≡ Some bytes
     bytes_at files is = at old.files (λ f. get f file ≡ Some bytes) files is found
 
@@ -205,6 +205,7 @@ module _ (file : List ℕ) (old new : Outside) (kept : new.files ≡ old.files) 
       comes = comes;
       so_far = keeps so_far;
       gained = by gained;
+      calls = inr (each old.files (λ files. MirrorCalls files file old.disk new.disk) (λ files is. record { packets = packets; there = there files is; bounded = bounded }));
       exact = each old.files (λ files. MirrorExact files file old.disk status) (λ files is. record {
         no_file = λ none. absurd (no_bytes (get files file) bytes none (bytes_at files is));
         bad_packets = λ place h. absurd (bad_not_good (reading_of bytes) place packets (ap reading_of (some_bytes bytes h.bytes (sym (bytes_at files is) ∙ h.found)) ∙ h.bad) read);
@@ -231,9 +232,9 @@ module _ (file : List ℕ) (old new : Outside) (kept : new.files ≡ old.files) 
         status fed.which fed.text fed.damaged
 
   -- nothing was printed, and the disk was not touched
-  module _ (quiet : new.contents ≡ old.contents) (looked : OnlyLooked old.disk new.disk) where
+  module _ (quiet : new.contents ≡ old.contents) (looked : OnlyLooked old.disk new.disk) (still : new.disk.calls ≡ old.disk.calls) where
     stopped : (status : Status) → MirrorComes file old new status → IfSome old.files (λ files. MirrorExact files file old.disk status) → IfSome old.files (λ files. MirrorComplete files file old new status) → MirrorPromise file old new status []
-    stopped status comes exact complete = record { comes = comes; so_far = λ honest. inl looked; gained = inl quiet; exact = exact; complete = complete; silent = refl; files = kept }
+    stopped status comes exact complete = record { comes = comes; so_far = λ honest. inl looked; gained = inl quiet; calls = inl still; exact = exact; complete = complete; silent = refl; files = kept }
 
     -- one of the two statuses that may come at any time
     excused_exact : (status : Status) → ((wanted : Status) → IsOr wanted status) → IfSome old.files (λ files. MirrorExact files file old.disk status)

@@ -9,7 +9,7 @@ use Rattle.voice_model.specs.declared.calls.Entry.{Entry}
 use Rattle.voice_outside.specs.Disk.{Told}
 use Rattle.voice_main.specs.declared.options.FormatNumbers.{FormatNumbers}
 use Rattle.voice_main.specs.declared.status.Status.{Status}
-use Rattle.voice_main.specs.declared.status.Status.TheVariants.{Done, Usage, ShelfFault, NoMemory}
+use Rattle.voice_main.specs.declared.status.Status.TheVariants.{Done, Usage, BadShape, ShelfFault, DiskFault, NoMemory}
 use Rattle.voice_main.specs.Words.{Command, Says, run_command, IsSerial, IsThreaded, IsFormat, IsConversion, IsNamed, IsNotes, IsMirror, IsAudit, IsPromotion, IsRefused, IsNoRun, IsNoFormat, IsNoConversion, IsNoAudit, IsNoPromotion, IsNoNotes, IsNoMirror, IsMake, IsNoMake, IsPackets, IsNoPackets}
 use Rattle.voice_main.specs.declared.convert.Way.{Way}
 use Rattle.voice_main.specs.declared.convert.Way.TheVariants as ways
@@ -27,6 +27,7 @@ use Rattle.voice_main.specs.PromotionPromise.{PromotionPromise, answer_status_of
 use Rattle.mirror_commands.specs.declared.promoting.Refusal.{Refusal}
 use Rattle.mirror_commands.specs.declared.promoting.Refusal.TheVariants as promotion
 use Rattle.voice_main.specs.Promises.{Promises, Comes}
+use Rattle.voice_main.specs.Statuses.{IsEarly}
 
 -- `--threads` names no file
 no_name : (name : List ℕ) → IsTrue (is_file name) → name ≡ codes "--threads" → ⊥
@@ -346,6 +347,14 @@ refused_of words old new status history (inr h) usage = absurd (aloud h.0 old ne
 
 pub no_memory_done : NoMemory ≡ Done → ⊥
 no_memory_done e = cc
+
+-- a format that is refused before the disk is touched is refused for its shape
+pub format_early : {P : Type 0} (numbers : FormatNumbers) (old new : Told) (status : Status) → FormatStatus numbers old new status → (status ≡ BadShape → P) → IsEarly status → P
+format_early numbers old new BadShape comes shape early = shape refl
+format_early numbers old new Done comes shape early = absurd early
+format_early numbers old new DiskFault comes shape early = absurd early
+format_early numbers old new NoMemory comes shape early = absurd early
+format_early numbers old new status comes shape early = absurd comes
 
 -- ---- the shelf's fault
 

@@ -22,14 +22,14 @@ use Rattle.served_files.specs.declared.heard.Heard.{Heard}
 use Rattle.served_files.specs.Files.{Queues, queues_of, files_set, SetInto}
 use Rattle.voice_main.specs.declared.packets.Written.{Written}
 use Rattle.voice_main.specs.declared.status.Status.{Status}
-use Rattle.voice_main.specs.declared.status.Status.TheVariants.{Done, ShelfFault, SinkFault, BadDisk, DiskFault, NoMemory, BadScript, NoFile}
+use Rattle.voice_main.specs.declared.status.Status.TheVariants.{Done, ShelfFault, SinkFault, BadDisk, DiskFault, NoMemory}
 use Rattle.voice_main.specs.Outside.{Outside, outside, SinkFaulted, IsUnchanged}
-use Rattle.voice_main.specs.Ran.{IsReady, IsThere, Ran, RanWhole, RanInto, Performed, Begun, MadeGiving}
+use Rattle.voice_main.specs.Ran.{IsReady, RanWhole, RanInto, Performed, Begun, MadeGiving}
 use Rattle.voice_main.specs.Played.{SetsFirst}
-use Rattle.voice_main.specs.RunPromise.{RunComes, RunSoFar, IsExact, IsComplete}
+use Rattle.voice_main.specs.RunPromise.{RunSoFar, IsExact, IsComplete}
 use Rattle.voice_main.specs.PacketsPromise.{RanPackets, RanPacketsInto, PacketsCome, PacketsLeft, RanNext, PacketsPromise}
-use Rattle.voice_main.specs.Sent.{next_line, Spells, TellsNext, IsSent, IsNext, MadeSpelled, MadePackets, MadePacketsInto, PacketsStand, SendsAll, SendsInto, SentLeaves, GainsText, GainsFront}
-use Rattle.voice_main.specs.Statuses.{Stops, Opens, Prints, Finishes, Performs}
+use Rattle.voice_main.specs.Sent.{next_line, Spells, TellsNext, IsNext, MadeSpelled, PacketsStand, SendsAll, SendsInto, SentLeaves, GainsText, GainsFront}
+use Rattle.voice_main.specs.Statuses.{Stops, Opens, Finishes, Performs}
 use Rattle.voice_main.proofs.Exact.{exact, complete, stopped}
 use Rattle.voice_main.proofs.Left.{performs_since, there_of, so_far_ready}
 

@@ -1,7 +1,6 @@
 -- A sender follows a store from its opening on.
-use Rattle.std.proofs.Common.{◌≡◌, ℕ, zero, suc, List, [], ◌∷◌, replicate, Some, None, sym, refl, ◌∙◌, ap, subst}
+use Rattle.std.proofs.Common.{◌≡◌, ℕ, zero, suc, List, [], replicate, Some, None, sym, refl, ◌∙◌, ap, subst}
 use Rattle.std.specs.Prelude.{IsTrue}
-use Rattle.voice_units.specs.declared.pieces.Piece.{Piece}
 use Rattle.voice_units.specs.declared.shapes.Shape.{Shape}
 use Rattle.voice_outside.specs.Disk.{Told}
 use Rattle.voice_model.specs.Samples.{spot_of}
@@ -9,7 +8,7 @@ use Rattle.voice_model.specs.State.{State, LaneState, quiet_lane}
 use Rattle.voice_model.specs.Step.{after}
 use Rattle.voice_model.specs.Replay.{Rebuilt, durable_by}
 use Rattle.voice_model.specs.Image.{Reading, reading, opened_by, opened_from}
-use Rattle.voice_model.specs.Valid.{Every, IsState}
+use Rattle.voice_model.specs.Valid.{Every}
 use Rattle.recovery.specs.declared.parts.Parts.{Parts}
 use Rattle.recovery.specs.Shown.{Shows, IsParts}
 use Rattle.running_tables.specs.Running.{passages_of}

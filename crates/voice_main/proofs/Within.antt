@@ -1,6 +1,6 @@
 -- The calls of a script's history lie in their ranges, and their takes in its tapes.
-use Rattle.std.proofs.Common.{◌≡◌, ℕ, suc, ◌⊎◌, List, [], ◌∷◌, ◌++◌, length, take, Option, Some, None, true, false, refl, sym, subst, arith}
-use Rattle.std.specs.Prelude.{IsTrue, All}
+use Rattle.std.proofs.Common.{◌≡◌, ℕ, suc, List, [], ◌∷◌, ◌++◌, length, take, Option, Some, None, true, false, refl, sym, subst, arith}
+use Rattle.std.specs.Prelude.{All}
 use Rattle.std.proofs.lemmas.List.{take_all}
 use Rattle.voice_model.specs.Valid.{Every, InRange}
 use Rattle.voice_model.specs.declared.calls.Call.{Call}

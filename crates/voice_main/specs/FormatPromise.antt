@@ -6,7 +6,7 @@
 --     IsLeft old new      the disk is as it was
 --     FormatStatus numbers old new status      when each status comes
 --     FormatPromise numbers old new status history      all of it
-use Rattle.std.specs.Prelude.{ℕ, List, [], Some, ◌≡◌, ◌≤◌, IsTrue}
+use Rattle.std.specs.Prelude.{ℕ, List, [], Some, ◌≡◌, ◌≤◌, ◌+◌, IsTrue}
 use Rattle.voice_units.specs.Layout.{IsShape, bytes_needed}
 use Rattle.voice_units.specs.declared.shapes.Shape.{Shape}
 use Rattle.voice_units.specs.declared.shapes.Graces.{Graces}
@@ -64,6 +64,8 @@ FormatStatus numbers old new _ = ⊥
 pub record FormatPromise (numbers : FormatNumbers) (old new : Outside) (status : Status) (history : List Entry) : Type 0 where
   pub comes : FormatStatus numbers old.disk new.disk status
   pub formatted : status ≡ Done → IsTrue old.disk.honest → Now new.disk (Formats numbers old.disk.bytes)
+  -- it makes at most 3 device calls
+  pub calls : new.disk.calls ≤ old.disk.calls + 3
   -- it makes no call, and prints nothing
   pub silent : history ≡ []
   pub quiet : new.contents ≡ old.contents

@@ -10,6 +10,7 @@ pub mod MakePromise
 pub mod MirrorPromise
 pub mod Notes
 pub mod NotesPromise
+pub mod Obeyed
 pub mod Options
 pub mod Ordered
 pub mod Outside

@@ -3,7 +3,7 @@
 --     Gains, GainsPart      the sink gained a text;  or a front of it
 --     FedStatus, FedText      when each status comes once the packets are read;  what stands of the text then
 --     Fed packets old new status      what came of packets that were read
---     MirrorTold, MirrorKeeps      the file's packets were all taken, and what the sink gained of the text;  what a crash leaves
+--     MirrorTold, MirrorKeeps, MirrorCalls      the file's packets were all taken, and what the sink gained of the text;  what a crash leaves;  the most device calls
 --     MirrorComes      when each status comes
 --     MirrorExact      what the file and the disk's bytes decide comes, but for faults and want of memory
 --     MirrorComplete      where all is there and no count rose, all is told, or memory was wanted
@@ -17,7 +17,7 @@ use Rattle.voice_model.specs.declared.calls.Entry.{Entry}
 use Rattle.mirror_packets.specs.Packets as packing
 use Rattle.mirror_packets.specs.Packets.{Packet, AreSpelled, reading_of}
 use Rattle.mirror_readings.specs.Readings.{MirrorReading, mirror_reading}
-use Rattle.mirror_commands.specs.Feeding.{IsNoMirrorAt, IsOfMirror, KeepsFronts, Tells}
+use Rattle.mirror_commands.specs.Feeding.{IsNoMirrorAt, IsOfMirror, KeepsFronts, Tells, IsBounded}
 use Rattle.voice_main.specs.declared.status.Status.{Status}
 use Rattle.voice_main.specs.declared.status.Status.TheVariants.{Done, NoFile, ShelfFault, SinkFault, BadDisk, DiskFault, NoMemory, BadPackets}
 use Rattle.voice_main.specs.Outside.{Outside, ShelfFaulted, SinkFaulted, DiskFaulted}
@@ -99,6 +99,12 @@ pub record MirrorKeeps (files : Files) (file : List ℕ) (old new : Told) : Type
   pub there : HasPackets files file packets
   pub fronts : KeepsFronts packets old new
 
+-- the most device calls that they take
+pub record MirrorCalls (files : Files) (file : List ℕ) (old new : Told) : Type 0 where
+  pub packets : List Packet
+  pub there : HasPackets files file packets
+  pub bounded : IsBounded packets old new
+
 -- when each status comes
 abbrev pub MirrorComes : List ℕ → Outside → Outside → Status → Type 0
 MirrorComes file old new Done = IfSome old.files (λ files. MirrorTold files file (Gains old.contents new.contents) old.disk new.disk)
@@ -129,6 +135,8 @@ pub record MirrorPromise (file : List ℕ) (old new : Outside) (status : Status)
   pub so_far : IsTrue old.disk.honest → OnlyLooked old.disk new.disk ⊎ IfSome old.files (λ files. MirrorKeeps files file old.disk new.disk)
   -- and the sink gained nothing, or a front of the text of one serve of all packets
   pub gained : (new.contents ≡ old.contents) ⊎ IfSome old.files (λ files. MirrorTold files file (GainsPart old.contents new.contents) old.disk new.disk)
+  -- no device call was made, or at most those that open the disk and those of each packet of the file
+  pub calls : (new.disk.calls ≡ old.disk.calls) ⊎ IfSome old.files (λ files. MirrorCalls files file old.disk new.disk)
   pub exact : IfSome old.files (λ files. MirrorExact files file old.disk status)
   pub complete : IfSome old.files (λ files. MirrorComplete files file old new status)
   -- it makes no call, and sets no file

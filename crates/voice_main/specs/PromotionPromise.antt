@@ -1,7 +1,7 @@
 -- What `promote` answers and leaves.
 --     answer_status_of answer      the status of an answer
 --     PromotionPromise old new status history      all of it
-use Rattle.std.specs.Prelude.{List, [], ◌≡◌, Result, Ok, Err}
+use Rattle.std.specs.Prelude.{List, [], ◌≡◌, ◌≤◌, ◌+◌, Result, Ok, Err}
 use Rattle.voice_model.specs.declared.calls.Entry.{Entry}
 use Rattle.mirror_commands.specs.declared.promoting.Refusal.{Refusal}
 use Rattle.mirror_commands.specs.Promoting.{Promotes}
@@ -20,6 +20,8 @@ pub record PromotionPromise (old new : Outside) (status : Status) (history : Lis
   pub answer : Result (Unit {0}) Refusal
   pub status_is : status ≡ answer_status_of answer
   pub promotes : Promotes old.disk new.disk answer
+  -- it makes at most 14 device calls
+  pub calls : new.disk.calls ≤ old.disk.calls + 14
   -- it makes no call, prints nothing and sets no file
   pub silent : history ≡ []
   pub quiet : new.contents ≡ old.contents

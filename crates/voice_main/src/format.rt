@@ -1,6 +1,6 @@
 //! Formatting a disk.
 
-ghost use Rattle.std.specs.Prelude.{◌≡◌, ◌≤◌, IsTrue, IfOk, IfErr};
+ghost use Rattle.std.specs.Prelude.{◌≡◌, ◌≤◌, ◌+◌, IsTrue, IfOk, IfErr};
 ghost use Rattle.voice_outside.specs.Counters.{HasRisen};
 ghost use Rattle.voice_outside.specs.Disk.{Now};
 ghost use Rattle.voice_main.specs.FormatPromise.{HasRoom, HasNumbers, Formats, FormatStatus};
@@ -34,12 +34,13 @@ fn shape_of(numbers: FormatNumbers, size: u64) -> Result<Shape, BadShape>
     )
 }
 
-/// Formats the disk for a shape of these numbers: `Done`, `BadShape`, which leaves the disk, or `DiskFault`.
+/// Formats the disk for a shape of these numbers: `Done`, `BadShape`, which leaves the disk, or `DiskFault`. It makes at most 3 device calls.
 pub fn format<D: Disk>(disk: D, numbers: FormatNumbers) -> (Status, D)
     ensures status { FormatStatus numbers (D.told disk) (D.told result.1) result.0 }
     ensures images { result.0 ≡ Status.Done → IsTrue (D.told disk).honest → Now (D.told result.1) (Formats numbers (D.told disk).bytes) }
     ensures early { result.0 ≡ Status.BadShape → result.1 ≡ disk }
     ensures goes { GoesOn (D.told disk) (D.told result.1) }
+    ensures calls { (D.told result.1).calls ≤ (D.told disk).calls + 3 }
 {
     let mut disk = disk;
     let Ok(shape) = shape_of(numbers, disk.size()) else {

@@ -1,17 +1,17 @@
 //! What the words of a mirror say: its disk takes the packets of a file, or becomes a voice disk.
 
-ghost use Rattle.std.specs.Prelude.{ℕ, List, [], Option, Some, ◌≡◌, ◌++◌, IfSome, map, string_bytes, take};
-ghost use Rattle.voice_model.specs.Text.{text_of};
+ghost use Rattle.std.specs.Prelude.{ℕ, List, [], Option, Some, ◌≡◌, map, string_bytes};
 ghost use Rattle.voice_outside.specs.Files.{Files};
 ghost use Rattle.mirror_packets.specs.Packets.{AreGood};
 ghost use Rattle.mirror_packets.specs.Shown.{packets_of};
 ghost use Rattle.voice_store.specs.Facts.{GoesOn};
+ghost use Rattle.mirror_commands.specs.Feeding.{IsBounded};
 ghost use Rattle.voice_main.specs.MirrorPromise.{Fed, MirrorPromise};
 ghost use Rattle.voice_main.specs.Outside.{outside};
 ghost use Rattle.voice_main.specs.PromotionPromise.{PromotionPromise};
-ghost use Rattle.voice_main.specs.Promises.{Comes, Promises};
+ghost use Rattle.voice_main.specs.Obeyed.{Obeys};
 ghost use Rattle.voice_main.specs.Statuses.{IsEarly, IsSilent, packets_status_of, refusal_status_of};
-ghost use Rattle.voice_main.specs.Words.{Command, Says, IsRefused, IsNoRun, IsNoConversion, IsNoAudit, IsNoNotes, IsNoMake, IsNoMirror, IsNoPackets};
+ghost use Rattle.voice_main.specs.Words.{IsNoConversion, IsNoAudit, IsNoNotes, IsNoMake, IsNoPackets};
 
 use crate::load::{file, load_status};
 use crate::output::print_text;
@@ -54,6 +54,7 @@ fn refusal_status(e: Refusal) -> Status
 fn fed<O: Sink, D: Disk>(alloc: Global, packets: &[Packet], out: &mut O, disk: D) -> (Status, D)
     requires good { AreGood (packets_of packets.now) }
     ensures fed { (files : Option Files) (old_faults new_faults : ℕ) → Fed (packets_of packets.now) (outside files old_faults (O.contents out.old) (O.faults out.old) (O.empty_takes out.old) (D.told disk)) (outside files new_faults (O.contents out.new) (O.faults out.new) (O.empty_takes out.new) (D.told result.1)) result.0 }
+    ensures calls { IsBounded (packets_of packets.now) (D.told disk) (D.told result.1) }
     ensures goes { GoesOn (D.told disk) (D.told result.1) }
 {
     let (told, disk) = feed(alloc, packets, disk);
@@ -142,25 +143,8 @@ pub(crate) fn run_mirror_or_other<R: Threads + Wait + Sync, K: Shelf, O: Sink, D
     requires audit { IsNoAudit (map string_bytes words.now) }
     requires notes { IsNoNotes (map string_bytes words.now) }
     requires make { IsNoMake (map string_bytes words.now) }
-    // The words are refused, or they say a command, whose promise holds.
-    ensures comes { Comes (map string_bytes words.now) (outside (K.files shelf.old) (K.faults shelf.old) (O.contents out.old) (O.faults out.old) (O.empty_takes out.old) (D.told disk)) (outside (K.files shelf.new) (K.faults shelf.new) (O.contents out.new) (O.faults out.new) (O.empty_takes out.new) (D.told result.disk)) result.status result.history.items }
-    // The promise of whatever command the words say holds.
-    ensures promise { (command : Command) → Says (map string_bytes words.now) command → Promises command (outside (K.files shelf.old) (K.faults shelf.old) (O.contents out.old) (O.faults out.old) (O.empty_takes out.old) (D.told disk)) (outside (K.files shelf.new) (K.faults shelf.new) (O.contents out.new) (O.faults out.new) (O.empty_takes out.new) (D.told result.disk)) result.status result.history.items }
-    // Usage comes exactly where the words are refused.
-    ensures usage { IsRefused (map string_bytes words.now) → result.status ≡ Status.Usage }
-    ensures refused { result.status ≡ Status.Usage → IsRefused (map string_bytes words.now) }
-    // What stands after any status: the front of the text that the sink took, but for a mirror that takes packets, and the files, but for a run, whose promises tell them.
-    ensures prefix { IsNoMirror (map string_bytes words.now) → IfSome (O.contents out.old) (λ had. (n : ℕ) × (O.contents out.new ≡ Some (had ++ take n (text_of result.history.items)))) }
-    ensures files { IsNoRun (map string_bytes words.now) → K.files shelf.new ≡ K.files shelf.old }
-    // A status that is decided before the first call leaves no history and prints nothing; one that is decided before the disk is touched leaves the disk.
-    ensures silent { IsSilent result.status → (result.history.items ≡ []) × (O.contents out.new ≡ O.contents out.old) }
-    ensures early { IsEarly result.status → result.disk ≡ disk }
-    // A status of the shelf's fault prints nothing, also where it comes after the calls.
-    ensures unprinted { result.status ≡ Status.ShelfFault → O.contents out.new ≡ O.contents out.old }
-    // Where no script is run, it comes before the disk is touched.
-    ensures shelf { IsNoRun (map string_bytes words.now) → result.status ≡ Status.ShelfFault → (result.disk ≡ disk) × (result.history.items ≡ []) × (O.contents out.new ≡ O.contents out.old) }
-    // The disk keeps its size, and its counts never fall.
-    ensures disk { GoesOn (D.told disk) (D.told result.disk) }
+    // What the words say is done.
+    ensures { Obeys (map string_bytes words.now) (outside (K.files shelf.old) (K.faults shelf.old) (O.contents out.old) (O.faults out.old) (O.empty_takes out.old) (D.told disk)) (outside (K.files shelf.new) (K.faults shelf.new) (O.contents out.new) (O.faults out.new) (O.empty_takes out.new) (D.told result.disk)) disk result.disk result.status result.history.items }
 {
     if is_promotion(words) {
         return promoted(alloc, disk);

@@ -1,21 +1,21 @@
 //! The top call.
 
-ghost use Rattle.std.specs.Prelude.{ℕ, List, [], Some, ◌≡◌, ◌≤◌, ◌++◌, ◌⊎◌, true, false, IfOk, IfErr, IfSome, IsTrue, map, string_bytes, length, take};
+ghost use Rattle.std.specs.Prelude.{ℕ, List, [], Some, ◌≡◌, ◌≤◌, ◌++◌, ◌⊎◌, IfOk, IfErr, IfSome, map, string_bytes, length, take};
 ghost use Rattle.std.specs.Arc.{arc_value};
 ghost use Rattle.voice_model.specs.Text.{text_of};
 ghost use Rattle.voice_outside.specs.Counters.{HasRisen};
 ghost use Rattle.script_lang.specs.Verbs.{is_built_verb};
 ghost use Rattle.script_lang.specs.Whole.{IsWhole};
 ghost use Rattle.voice_store.specs.Facts.{GoesOn};
-ghost use Rattle.served_files.specs.Files.{AreEnough, queues_of};
 ghost use Rattle.voice_main.specs.Words.{Command, Says, IsRefused, IsConversion, IsNoRun, IsNoConversion, IsNoAudit, IsNoNotes, IsNoMake, IsNoMirror, IsNoPromotion, IsNoPackets};
 ghost use Rattle.voice_main.specs.declared.convert.Way.{Way as WayValue};
 ghost use Rattle.voice_main.specs.Outside.{outside, IsUnchanged};
-ghost use Rattle.voice_main.specs.Ran.{IsReady, Performed, Begun, MadeGiving};
+ghost use Rattle.voice_main.specs.Ran.{IsReady, Performed, Begun};
 ghost use Rattle.voice_main.specs.Played.{Leaves};
 ghost use Rattle.voice_main.specs.RunPromise.{RunPromise};
 ghost use Rattle.voice_main.specs.Promises.{Comes, Promises};
-ghost use Rattle.voice_main.specs.Statuses.{Stops, Opens, Performs, IsEarly, IsSilent, open_status_of, script_status_of};
+ghost use Rattle.voice_main.specs.Obeyed.{Obeys};
+ghost use Rattle.voice_main.specs.Statuses.{Stops, Performs, IsEarly, IsSilent, open_status_of, script_status_of};
 
 use crate::assigned::assigned;
 use crate::audited::audited;
@@ -202,25 +202,8 @@ pub(crate) fn run_or_format<R: Threads + Wait + Sync, K: Shelf, O: Sink, D: Disk
     requires make { IsNoMake (map string_bytes words.now) }
     requires mirror { IsNoMirror (map string_bytes words.now) }
     requires promotion { IsNoPromotion (map string_bytes words.now) }
-    // The words are refused, or they say a command, whose promise holds.
-    ensures comes { Comes (map string_bytes words.now) (outside (K.files shelf.old) (K.faults shelf.old) (O.contents out.old) (O.faults out.old) (O.empty_takes out.old) (D.told disk)) (outside (K.files shelf.new) (K.faults shelf.new) (O.contents out.new) (O.faults out.new) (O.empty_takes out.new) (D.told result.disk)) result.status result.history.items }
-    // The promise of whatever command the words say holds.
-    ensures promise { (command : Command) → Says (map string_bytes words.now) command → Promises command (outside (K.files shelf.old) (K.faults shelf.old) (O.contents out.old) (O.faults out.old) (O.empty_takes out.old) (D.told disk)) (outside (K.files shelf.new) (K.faults shelf.new) (O.contents out.new) (O.faults out.new) (O.empty_takes out.new) (D.told result.disk)) result.status result.history.items }
-    // Usage comes exactly where the words are refused.
-    ensures usage { IsRefused (map string_bytes words.now) → result.status ≡ Status.Usage }
-    ensures refused { result.status ≡ Status.Usage → IsRefused (map string_bytes words.now) }
-    // What stands after any status: the front of the text that the sink took, and the files, but for a run, whose promise tells them.
-    ensures prefix { IfSome (O.contents out.old) (λ had. (n : ℕ) × (O.contents out.new ≡ Some (had ++ take n (text_of result.history.items)))) }
-    ensures files { IsNoRun (map string_bytes words.now) → K.files shelf.new ≡ K.files shelf.old }
-    // A status that is decided before the first call leaves no history and prints nothing; one that is decided before the disk is touched leaves the disk.
-    ensures silent { IsSilent result.status → (result.history.items ≡ []) × (O.contents out.new ≡ O.contents out.old) }
-    ensures early { IsEarly result.status → result.disk ≡ disk }
-    // A status of the shelf's fault prints nothing, also where it comes after the calls.
-    ensures unprinted { result.status ≡ Status.ShelfFault → O.contents out.new ≡ O.contents out.old }
-    // Where no script is run, it comes before the disk is touched.
-    ensures shelf { IsNoRun (map string_bytes words.now) → result.status ≡ Status.ShelfFault → (result.disk ≡ disk) × (result.history.items ≡ []) × (O.contents out.new ≡ O.contents out.old) }
-    // The disk keeps its size, and its counts never fall.
-    ensures disk { GoesOn (D.told disk) (D.told result.disk) }
+    // What the words say is done.
+    ensures { Obeys (map string_bytes words.now) (outside (K.files shelf.old) (K.faults shelf.old) (O.contents out.old) (O.faults out.old) (O.empty_takes out.old) (D.told disk)) (outside (K.files shelf.new) (K.faults shelf.new) (O.contents out.new) (O.faults out.new) (O.empty_takes out.new) (D.told result.disk)) disk result.disk result.status result.history.items }
 {
     let Some(asked) = run_words(words) else {
         // The grammar decides which words are accepted, and clap assigns their numbers.
@@ -271,25 +254,8 @@ fn run_make_or_other<R: Threads + Wait + Sync, K: Shelf, O: Sink, D: Disk, G: Ga
     requires conversion { IsNoConversion (map string_bytes words.now) }
     requires audit { IsNoAudit (map string_bytes words.now) }
     requires notes { IsNoNotes (map string_bytes words.now) }
-    // The words are refused, or they say a command, whose promise holds.
-    ensures comes { Comes (map string_bytes words.now) (outside (K.files shelf.old) (K.faults shelf.old) (O.contents out.old) (O.faults out.old) (O.empty_takes out.old) (D.told disk)) (outside (K.files shelf.new) (K.faults shelf.new) (O.contents out.new) (O.faults out.new) (O.empty_takes out.new) (D.told result.disk)) result.status result.history.items }
-    // The promise of whatever command the words say holds.
-    ensures promise { (command : Command) → Says (map string_bytes words.now) command → Promises command (outside (K.files shelf.old) (K.faults shelf.old) (O.contents out.old) (O.faults out.old) (O.empty_takes out.old) (D.told disk)) (outside (K.files shelf.new) (K.faults shelf.new) (O.contents out.new) (O.faults out.new) (O.empty_takes out.new) (D.told result.disk)) result.status result.history.items }
-    // Usage comes exactly where the words are refused.
-    ensures usage { IsRefused (map string_bytes words.now) → result.status ≡ Status.Usage }
-    ensures refused { result.status ≡ Status.Usage → IsRefused (map string_bytes words.now) }
-    // What stands after any status: the front of the text that the sink took, but for a generated script and a mirror that takes packets, and the files, but for a run, whose promises tell them.
-    ensures prefix { IsNoMake (map string_bytes words.now) → IsNoMirror (map string_bytes words.now) → IfSome (O.contents out.old) (λ had. (n : ℕ) × (O.contents out.new ≡ Some (had ++ take n (text_of result.history.items)))) }
-    ensures files { IsNoRun (map string_bytes words.now) → K.files shelf.new ≡ K.files shelf.old }
-    // A status that is decided before the first call leaves no history and prints nothing; one that is decided before the disk is touched leaves the disk.
-    ensures silent { IsSilent result.status → (result.history.items ≡ []) × (O.contents out.new ≡ O.contents out.old) }
-    ensures early { IsEarly result.status → result.disk ≡ disk }
-    // A status of the shelf's fault prints nothing, also where it comes after the calls.
-    ensures unprinted { result.status ≡ Status.ShelfFault → O.contents out.new ≡ O.contents out.old }
-    // Where no script is run, it comes before the disk is touched.
-    ensures shelf { IsNoRun (map string_bytes words.now) → result.status ≡ Status.ShelfFault → (result.disk ≡ disk) × (result.history.items ≡ []) × (O.contents out.new ≡ O.contents out.old) }
-    // The disk keeps its size, and its counts never fall.
-    ensures disk { GoesOn (D.told disk) (D.told result.disk) }
+    // What the words say is done.
+    ensures { Obeys (map string_bytes words.now) (outside (K.files shelf.old) (K.faults shelf.old) (O.contents out.old) (O.faults out.old) (O.empty_takes out.old) (D.told disk)) (outside (K.files shelf.new) (K.faults shelf.new) (O.contents out.new) (O.faults out.new) (O.empty_takes out.new) (D.told result.disk)) disk result.disk result.status result.history.items }
 {
     let Some(asked) = make_words(words) else {
         return run_mirror_or_other(rt, alloc, words, shelf, out, disk, gate);
@@ -310,25 +276,8 @@ fn run_notes_or_other<R: Threads + Wait + Sync, K: Shelf, O: Sink, D: Disk, G: G
     requires packets { IsNoPackets (map string_bytes words.now) }
     requires conversion { IsNoConversion (map string_bytes words.now) }
     requires audit { IsNoAudit (map string_bytes words.now) }
-    // The words are refused, or they say a command, whose promise holds.
-    ensures comes { Comes (map string_bytes words.now) (outside (K.files shelf.old) (K.faults shelf.old) (O.contents out.old) (O.faults out.old) (O.empty_takes out.old) (D.told disk)) (outside (K.files shelf.new) (K.faults shelf.new) (O.contents out.new) (O.faults out.new) (O.empty_takes out.new) (D.told result.disk)) result.status result.history.items }
-    // The promise of whatever command the words say holds.
-    ensures promise { (command : Command) → Says (map string_bytes words.now) command → Promises command (outside (K.files shelf.old) (K.faults shelf.old) (O.contents out.old) (O.faults out.old) (O.empty_takes out.old) (D.told disk)) (outside (K.files shelf.new) (K.faults shelf.new) (O.contents out.new) (O.faults out.new) (O.empty_takes out.new) (D.told result.disk)) result.status result.history.items }
-    // Usage comes exactly where the words are refused.
-    ensures usage { IsRefused (map string_bytes words.now) → result.status ≡ Status.Usage }
-    ensures refused { result.status ≡ Status.Usage → IsRefused (map string_bytes words.now) }
-    // What stands after any status: the front of the text that the sink took, but for a generated script and a mirror that takes packets, and the files, but for a run, whose promises tell them.
-    ensures prefix { IsNoMake (map string_bytes words.now) → IsNoMirror (map string_bytes words.now) → IfSome (O.contents out.old) (λ had. (n : ℕ) × (O.contents out.new ≡ Some (had ++ take n (text_of result.history.items)))) }
-    ensures files { IsNoRun (map string_bytes words.now) → K.files shelf.new ≡ K.files shelf.old }
-    // A status that is decided before the first call leaves no history and prints nothing; one that is decided before the disk is touched leaves the disk.
-    ensures silent { IsSilent result.status → (result.history.items ≡ []) × (O.contents out.new ≡ O.contents out.old) }
-    ensures early { IsEarly result.status → result.disk ≡ disk }
-    // A status of the shelf's fault prints nothing, also where it comes after the calls.
-    ensures unprinted { result.status ≡ Status.ShelfFault → O.contents out.new ≡ O.contents out.old }
-    // Where no script is run, it comes before the disk is touched.
-    ensures shelf { IsNoRun (map string_bytes words.now) → result.status ≡ Status.ShelfFault → (result.disk ≡ disk) × (result.history.items ≡ []) × (O.contents out.new ≡ O.contents out.old) }
-    // The disk keeps its size, and its counts never fall.
-    ensures disk { GoesOn (D.told disk) (D.told result.disk) }
+    // What the words say is done.
+    ensures { Obeys (map string_bytes words.now) (outside (K.files shelf.old) (K.faults shelf.old) (O.contents out.old) (O.faults out.old) (O.empty_takes out.old) (D.told disk)) (outside (K.files shelf.new) (K.faults shelf.new) (O.contents out.new) (O.faults out.new) (O.empty_takes out.new) (D.told result.disk)) disk result.disk result.status result.history.items }
 {
     let Some(index) = notes_words(words) else {
         return run_make_or_other(rt, alloc, words, shelf, out, disk, gate);
@@ -348,25 +297,8 @@ fn run_audit_or_other<R: Threads + Wait + Sync, K: Shelf, O: Sink, D: Disk, G: G
 ) -> Ended<D>
     requires packets { IsNoPackets (map string_bytes words.now) }
     requires conversion { IsNoConversion (map string_bytes words.now) }
-    // The words are refused, or they say a command, whose promise holds.
-    ensures comes { Comes (map string_bytes words.now) (outside (K.files shelf.old) (K.faults shelf.old) (O.contents out.old) (O.faults out.old) (O.empty_takes out.old) (D.told disk)) (outside (K.files shelf.new) (K.faults shelf.new) (O.contents out.new) (O.faults out.new) (O.empty_takes out.new) (D.told result.disk)) result.status result.history.items }
-    // The promise of whatever command the words say holds.
-    ensures promise { (command : Command) → Says (map string_bytes words.now) command → Promises command (outside (K.files shelf.old) (K.faults shelf.old) (O.contents out.old) (O.faults out.old) (O.empty_takes out.old) (D.told disk)) (outside (K.files shelf.new) (K.faults shelf.new) (O.contents out.new) (O.faults out.new) (O.empty_takes out.new) (D.told result.disk)) result.status result.history.items }
-    // Usage comes exactly where the words are refused.
-    ensures usage { IsRefused (map string_bytes words.now) → result.status ≡ Status.Usage }
-    ensures refused { result.status ≡ Status.Usage → IsRefused (map string_bytes words.now) }
-    // What stands after any status: the front of the text that the sink took, but for an audit, a generated script and a mirror that takes packets, and the files, but for a run; their promises say what becomes of them.
-    ensures prefix { IsNoAudit (map string_bytes words.now) → IsNoMake (map string_bytes words.now) → IsNoMirror (map string_bytes words.now) → IfSome (O.contents out.old) (λ had. (n : ℕ) × (O.contents out.new ≡ Some (had ++ take n (text_of result.history.items)))) }
-    ensures files { IsNoRun (map string_bytes words.now) → K.files shelf.new ≡ K.files shelf.old }
-    // A status that is decided before the first call leaves no history and prints nothing; one that is decided before the disk is touched leaves the disk.
-    ensures silent { IsSilent result.status → (result.history.items ≡ []) × (O.contents out.new ≡ O.contents out.old) }
-    ensures early { IsEarly result.status → result.disk ≡ disk }
-    // A status of the shelf's fault prints nothing, also where it comes after the calls.
-    ensures unprinted { result.status ≡ Status.ShelfFault → O.contents out.new ≡ O.contents out.old }
-    // Where no script is run, it comes before the disk is touched.
-    ensures shelf { IsNoRun (map string_bytes words.now) → result.status ≡ Status.ShelfFault → (result.disk ≡ disk) × (result.history.items ≡ []) × (O.contents out.new ≡ O.contents out.old) }
-    // The disk keeps its size, and its counts never fall.
-    ensures disk { GoesOn (D.told disk) (D.told result.disk) }
+    // What the words say is done.
+    ensures { Obeys (map string_bytes words.now) (outside (K.files shelf.old) (K.faults shelf.old) (O.contents out.old) (O.faults out.old) (O.empty_takes out.old) (D.told disk)) (outside (K.files shelf.new) (K.faults shelf.new) (O.contents out.new) (O.faults out.new) (O.empty_takes out.new) (D.told result.disk)) disk result.disk result.status result.history.items }
 {
     if is_audit(words) {
         return audited(alloc, out, disk);
@@ -385,27 +317,8 @@ fn run_conversion_or_other<R: Threads + Wait + Sync, K: Shelf, O: Sink, D: Disk,
     gate: &G,
 ) -> Ended<D>
     requires { IsNoPackets (map string_bytes words.now) }
-    // The words are refused, or they say a command, whose promise holds.
-    ensures comes { Comes (map string_bytes words.now) (outside (K.files shelf.old) (K.faults shelf.old) (O.contents out.old) (O.faults out.old) (O.empty_takes out.old) (D.told disk)) (outside (K.files shelf.new) (K.faults shelf.new) (O.contents out.new) (O.faults out.new) (O.empty_takes out.new) (D.told result.disk)) result.status result.history.items }
-    // The promise of whatever command the words say holds.
-    ensures promise { (command : Command) → Says (map string_bytes words.now) command → Promises command (outside (K.files shelf.old) (K.faults shelf.old) (O.contents out.old) (O.faults out.old) (O.empty_takes out.old) (D.told disk)) (outside (K.files shelf.new) (K.faults shelf.new) (O.contents out.new) (O.faults out.new) (O.empty_takes out.new) (D.told result.disk)) result.status result.history.items }
-    // Usage comes exactly where the words are refused.
-    ensures usage { IsRefused (map string_bytes words.now) → result.status ≡ Status.Usage }
-    ensures refused { result.status ≡ Status.Usage → IsRefused (map string_bytes words.now) }
-    // What stands after any status: the front of the text that the sink took, but for an audit, a generated script and a mirror that takes packets, and the files, but for a conversion and a run; their promises say what becomes of them.
-    ensures prefix { IsNoAudit (map string_bytes words.now) → IsNoMake (map string_bytes words.now) → IsNoMirror (map string_bytes words.now) → IfSome (O.contents out.old) (λ had. (n : ℕ) × (O.contents out.new ≡ Some (had ++ take n (text_of result.history.items)))) }
-    ensures files { IsNoConversion (map string_bytes words.now) → IsNoRun (map string_bytes words.now) → K.files shelf.new ≡ K.files shelf.old }
-    // A status that is decided before the first call leaves no history and prints nothing; one that is decided before the disk is touched leaves the disk.
-    ensures silent { IsSilent result.status → (result.history.items ≡ []) × (O.contents out.new ≡ O.contents out.old) }
-    ensures early { IsEarly result.status → result.disk ≡ disk }
-    // A status of the shelf's fault prints nothing, also where it comes after the calls.
-    ensures unprinted { result.status ≡ Status.ShelfFault → O.contents out.new ≡ O.contents out.old }
-    // Where no script is run, it comes before the disk is touched.
-    ensures shelf { IsNoRun (map string_bytes words.now) → result.status ≡ Status.ShelfFault → (result.disk ≡ disk) × (result.history.items ≡ []) × (O.contents out.new ≡ O.contents out.old) }
-    // A conversion leaves the disk.
-    ensures apart { (way : WayValue) (source target : List ℕ) → IsConversion way (map string_bytes words.now) source target → result.disk ≡ disk }
-    // The disk keeps its size, and its counts never fall.
-    ensures disk { GoesOn (D.told disk) (D.told result.disk) }
+    // What the words say is done.
+    ensures { Obeys (map string_bytes words.now) (outside (K.files shelf.old) (K.faults shelf.old) (O.contents out.old) (O.faults out.old) (O.empty_takes out.old) (D.told disk)) (outside (K.files shelf.new) (K.faults shelf.new) (O.contents out.new) (O.faults out.new) (O.empty_takes out.new) (D.told result.disk)) disk result.disk result.status result.history.items }
 {
     let Some(asked) = conversion_words(words) else {
         return run_audit_or_other(rt, alloc, words, shelf, out, disk, gate);

@@ -1,4 +1,4 @@
-use Rattle.std.proofs.Common.{◌≡◌, ◌≤◌, ◌∙◌, List, ℕ, true, false, length, sym, subst, refl}
+use Rattle.std.proofs.Common.{◌≤◌, ◌∙◌, List, true, false, length, sym, subst, refl}
 use Rattle.std.specs.Prelude.{Vec}
 use Rattle.std.specs.declared.alloc.Global.{Global}
 use Rattle.voice_model.specs.Heard.{LegalOn}

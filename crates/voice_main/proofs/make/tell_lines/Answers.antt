@@ -1,4 +1,4 @@
-use Rattle.std.proofs.Common.{◌≡◌, ◌⊎◌, ◌∙◌, inl, refl, ap, sym, subst}
+use Rattle.std.proofs.Common.{◌⊎◌, ◌∙◌, inl, refl, ap, sym, subst}
 use Rattle.std.specs.Arc.{arc_value}
 use Rattle.voice_outside.specs.Counters.{HasRisen}
 use Rattle.voice_main.specs.declared.status.Status.{Status}

@@ -5,6 +5,7 @@ use Rattle.mirror_packets.specs.Packets as packing
 use Rattle.mirror_packets.specs.Packets.{AreSpelled, reading_of}
 use Rattle.mirror_packets.specs.Shown.{packets_of}
 use Rattle.mirror_packets.specs.declared.packets.Packet.{Packet}
+use Rattle.mirror_commands.specs.Feeding.{IsBounded}
 use Rattle.voice_main.specs.Outside.{Outside, outside}
 use Rattle.voice_main.specs.MirrorPromise.{Fed, MirrorPromise}
 use Rattle.voice_main.proofs.Mirrored.{fed_promise, fed_silent, fed_late, fed_no_shelf}
@@ -23,8 +24,10 @@ returns-clause-promise g c =
     let fed_then = subst (λ (f : Option Files). Fed packets old (after f) status) (sym kept) fed in
     let spelled = subst (λ (bytes : List ℕ). AreSpelled bytes packets) c.deref.ensures.value c.in-Ok-parse.ensures.spelled in
     let read : reading_of c.in-Ok.bytes.items ≡ packing.Reading.Packets packets = ap reading_of (sym c.deref.ensures.value) ∙ c.in-Ok-parse.ensures.ok in
+    let disk = g.D.Disk.told c.args.disk in
+    let bounded = subst (λ (ps : List Packet). IsBounded (packets_of ps) disk (g.D.Disk.told c.fed-status.result.1)) c.deref-2.ensures.value c.fed-status.ensures.calls in
     subst (λ (history : List Entry). MirrorPromise c.args.name.now old (after (g.K.Shelf.files c.file.new.shelf)) status history) (sym c.new-2.ensures.items)
-    (fed_promise c.args.name.now old (after (g.K.Shelf.files c.file.new.shelf)) kept c.in-Ok.bytes.items packets c.in-Ok.ensures.ok spelled read status fed_then)
+    (fed_promise c.args.name.now old (after (g.K.Shelf.files c.file.new.shelf)) kept c.in-Ok.bytes.items packets c.in-Ok.ensures.ok spelled read bounded status fed_then)
 
 pub returns-clause-silent : goal.returns-clause-silent
 returns-clause-silent g c = λ silent.

@@ -1,4 +1,4 @@
-use Rattle.std.proofs.Common.{◌≡◌, ◌^◌, ◌≤◌, ◌<◌, ◌⊎◌, inl, inr, get_or, length, sym, ◌∙◌, ap, subst, arith}
+use Rattle.std.proofs.Common.{◌≡◌, ◌^◌, ◌<◌, get_or, length, sym, ◌∙◌, ap, arith}
 use Rattle.std.specs.Fmt.{decimal}
 use Rattle.script_lang.specs.Numbers.{read_on}
 use Rattle.voice_main.proofs.Wide.{not_long, not_digits, not_canonical, not_small, some_long, decimal_of}

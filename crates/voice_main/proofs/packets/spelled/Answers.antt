@@ -1,4 +1,4 @@
-use Rattle.std.proofs.Common.{◌≡◌, ◌++◌, ◌∙◌, refl, ap}
+use Rattle.std.proofs.Common.{◌++◌, ◌∙◌, refl, ap}
 use Rattle.voice_model.specs.Step.{after}
 use Rattle.voice_main.specs.Sent.{next_line}
 use Rattle.voice_main.proofs.packets.spelled.Goals as goal

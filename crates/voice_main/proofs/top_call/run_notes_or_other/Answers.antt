@@ -5,27 +5,27 @@ use Rattle.voice_main.specs.Outside.{Outside, outside}
 use Rattle.voice_main.proofs.Said.{notes_comes, notes_only, refused_of}
 use Rattle.voice_main.proofs.top_call.run_notes_or_other.Goals as goal
 
-pub returns-clause-comes : goal.returns-clause-comes
-returns-clause-comes g c =
-    let old : Outside = outside (g.K.Shelf.files c.args.shelf.now) (g.K.Shelf.faults c.args.shelf.now) (g.O.Sink.contents c.args.out.now) (g.O.Sink.faults c.args.out.now) (g.O.Sink.empty_takes c.args.out.now) (g.D.Disk.told c.args.disk) in
-    let new : Outside = outside (g.K.Shelf.files c.census.new.shelf) (g.K.Shelf.faults c.census.new.shelf) (g.O.Sink.contents c.census.new.out) (g.O.Sink.faults c.census.new.out) (g.O.Sink.empty_takes c.census.new.out) (g.D.Disk.told c.census.result.disk) in
-    notes_comes (map string_bytes c.args.words.now) c.in-Some.index old new c.census.result.status c.census.result.history.items c.in-Some.ensures c.census.ensures.promise
-
-pub returns-clause-promise : goal.returns-clause-promise
-returns-clause-promise g c =
-    let old : Outside = outside (g.K.Shelf.files c.args.shelf.now) (g.K.Shelf.faults c.args.shelf.now) (g.O.Sink.contents c.args.out.now) (g.O.Sink.faults c.args.out.now) (g.O.Sink.empty_takes c.args.out.now) (g.D.Disk.told c.args.disk) in
-    let new : Outside = outside (g.K.Shelf.files c.census.new.shelf) (g.K.Shelf.faults c.census.new.shelf) (g.O.Sink.contents c.census.new.out) (g.O.Sink.faults c.census.new.out) (g.O.Sink.empty_takes c.census.new.out) (g.D.Disk.told c.census.result.disk) in
-    notes_only (map string_bytes c.args.words.now) c.in-Some.index old new c.census.result.status c.census.result.history.items c.in-Some.ensures c.census.ensures.promise
-
-pub returns-clause-usage : goal.returns-clause-usage
-returns-clause-usage g c = λ refused. absurd (refused (Command.Notes c.in-Some.index) c.in-Some.ensures)
-
-pub returns-clause-refused : goal.returns-clause-refused
-returns-clause-refused g c =
+pub returns : goal.returns
+returns g c =
     let words = map string_bytes c.args.words.now in
+    let index = c.in-Some.index in
+    let said = c.in-Some.ensures in
+    let status = c.census.result.status in
+    let history = c.census.result.history.items in
     let old : Outside = outside (g.K.Shelf.files c.args.shelf.now) (g.K.Shelf.faults c.args.shelf.now) (g.O.Sink.contents c.args.out.now) (g.O.Sink.faults c.args.out.now) (g.O.Sink.empty_takes c.args.out.now) (g.D.Disk.told c.args.disk) in
     let new : Outside = outside (g.K.Shelf.files c.census.new.shelf) (g.K.Shelf.faults c.census.new.shelf) (g.O.Sink.contents c.census.new.out) (g.O.Sink.faults c.census.new.out) (g.O.Sink.empty_takes c.census.new.out) (g.D.Disk.told c.census.result.disk) in
-    refused_of words old new c.census.result.status c.census.result.history.items (notes_comes words c.in-Some.index old new c.census.result.status c.census.result.history.items c.in-Some.ensures c.census.ensures.promise)
-
-pub returns-clause-unprinted : goal.returns-clause-unprinted
-returns-clause-unprinted g c = λ is. (c.census.ensures.shelf is).2
+    let comes = notes_comes words index old new status history said c.census.ensures.promise in
+    record {
+      comes = comes;
+      promise = notes_only words index old new status history said c.census.ensures.promise;
+      usage = λ refused. absurd (refused (Command.Notes index) said);
+      refused = refused_of words old new status history comes;
+      prefix = λ _ _ _ _. c.census.ensures.prefix;
+      files = λ _ _ _. c.census.ensures.files;
+      silent = c.census.ensures.silent;
+      early = c.census.ensures.early;
+      unprinted = λ is. (c.census.ensures.shelf is).2;
+      shelf = λ _ _ is. c.census.ensures.shelf is;
+      apart = λ way source target is. absurd (c.requires.conversion way source target is);
+      disk = c.census.ensures.disk;
+    }
